@@ -20,7 +20,7 @@ import time
 
 import installed
 import proved
-from late import Late, all_of, as_many, looked_at
+from late import Late, Plain, all_of, as_many, looked_at
 from serving import Served, free_port, is_listening, served
 
 TOP = os.path.dirname(os.path.dirname(os.path.abspath(__file__)))
@@ -278,25 +278,39 @@ def drip(lines, byte, over):
                 line.sendall(byte)
 
 
+@contextlib.contextmanager
+def dripping(lines, byte):
+    """Drips on these connections meanwhile."""
+    over = threading.Event()
+    thread = threading.Thread(target=drip, args=(lines, byte, over))
+    thread.start()
+    try:
+        yield
+    finally:
+        over.set()
+        thread.join()
+
+
 def beside(name, count, front, byte):
-    """One client's pages beside a crowd, each of which brought a front of a request, and drips the rest of it."""
-    with hello(count + ASKS) as run, contextlib.ExitStack() as lines:
+    """One client's pages beside a crowd, each of which brought a front of a request, and drips the rest of it. What a
+    plain server takes meanwhile isn't counted."""
+    with hello(count + ASKS) as run, Plain() as plain, contextlib.ExitStack() as lines:
         crowd = [lines.enter_context(run.connect()) for _ in range(count)]
         for line in crowd:
             line.sendall(front)
-        over, times = threading.Event(), []
-        dripping = threading.Thread(target=drip, args=(crowd, byte, over))
-        dripping.start()
-        for _ in range(ASKS):
-            with run.connect() as line:
-                page, seconds = asked(line)
-            times.append(seconds)
-            if page != reply(b'200 OK', True, b'hello'):
-                yield '%s: %r' % (name, page)
-        over.set()
-        dripping.join()
-        for most, seconds in (0.005, statistics.median(times)), (0.05, max(times)):
-            yield None if seconds <= most else Late('%s: %.4f seconds, not %.3f' % (name, seconds, most))
+        times, others = [], []
+        with dripping(crowd, byte):
+            for _ in range(ASKS):
+                with run.connect() as line:
+                    page, seconds = asked(line)
+                times.append(seconds)
+                others.append(plain.seconds())
+                if page != reply(b'200 OK', True, b'hello'):
+                    yield '%s: %r' % (name, page)
+        for most, of in (0.005, statistics.median), (0.05, max):
+            have = of(times), of(others)
+            told = '%s: %.4f seconds, a plain server %.4f, not %.3f more' % (name, *have, most)
+            yield None if have[0] - have[1] <= most else Late(told)
         lines.close()
         yield expect('%s, at the end' % name, run.end()[0], 0)
 
