@@ -138,21 +138,21 @@ def in_time(name, seconds, most):
 
 
 def waited_for():
-    """Clients that send nothing hold up the next one for a moment, half a head or half a body for three seconds."""
-    halves = (b'', 0.1), (b'GET / HTT', 3), (b'POST / HTTP/1.1\r\nHost: a\r\nContent-Length: 9\r\n\r\nname', 3)
+    """Clients that send nothing, half a head or half a body hold nobody up, and are let go."""
+    halves = b'', b'GET / HTT', b'POST / HTTP/1.1\r\nHost: a\r\nContent-Length: 9\r\n\r\nname'
     with hello(2 * len(halves)) as run:
-        for half, most in halves:
+        for half in halves:
             with run.connect() as silent, run.connect() as line:
                 silent.sendall(half)
                 page, seconds = asked(line)
                 yield expect('behind %r' % half, page, reply(b'200 OK', True, b'hello'))
-                yield in_time('behind %r' % half, seconds, most)
+                yield in_time('behind %r' % half, seconds, 0)
                 yield expect('after %r' % half, read_all(silent), b'')
         yield ends('clients that wait', run, 2 * len(halves), len(halves))
 
 
 def dripped():
-    """A client that sends a byte every two seconds holds up others for three seconds, and once."""
+    """A client that sends a byte from time to time holds nobody up."""
     drips = b'GET / HTTP/1.1', b'POST / HTTP/1.1\r\nHost: a\r\nContent-Length: 99\r\n\r\nname=Ann'
     with hello(3 * len(drips)) as run:
         for drip in drips:
@@ -165,7 +165,7 @@ def dripped():
                         break
                     slow.sendall(bytes([byte]))
                 yield all_of('behind a drip', read_all(line), reply(b'200 OK', True, b'hello'))
-                yield in_time('behind a drip', time.monotonic() - began, 3)
+                yield in_time('behind a drip', time.monotonic() - began, 0)
                 with run.connect() as line:
                     yield in_time('behind a drip, once more', asked(line)[1], 0)
         yield ends('clients that drip', run, 3 * len(drips), 2 * len(drips))
@@ -359,8 +359,8 @@ def many():
                     line.sendall(fronts[place % len(fronts)])
                     if place % len(fronts) == 3:
                         read_all(line)
-            time.sleep(0.2)
-            return asked(run.connect())[0]
+            with run.connect() as line:
+                return asked(line)[0]
 
         some(2000)
         descriptors, memory = held()
@@ -373,6 +373,22 @@ def many():
         grown = now[1] - memory
         yield None if grown <= 1 << 20 else 'memory grew by %d bytes in %d connections' % (grown, done)
         print('connections one after another: %d' % done)
+
+
+def burst():
+    """Three hundred clients connect while another holds the program up, and each has its page."""
+    asks = b'GET /large HTTP/1.1\r\nHost: a\r\n\r\n' * 200
+    with hello(301) as run, contextlib.ExitStack() as lines:
+        slow = lines.enter_context(run.connect(room=4096))
+        slow.sendall(asks)
+        time.sleep(0.2)
+        began = time.monotonic()
+        crowd = [lines.enter_context(run.connect()) for _ in range(300)]
+        yield in_time('a burst of connections', time.monotonic() - began, 0)
+        for line in crowd:
+            line.sendall(b'GET / HTTP/1.0\r\n\r\n')
+        pages = [read_all(line) for line in crowd]
+        yield expect('pages of a burst', pages.count(reply(b'200 OK', True, b'hello')), 300)
 
 
 HANDS_IN = '''
@@ -524,7 +540,7 @@ def forms():
 def main():
     results = []
     parts = [in_pieces, kept, refused, large, waited_for, dripped, let_go, taken_in_turn, gone, not_taken, taken_port,
-             told, audits, beside_idle, beside_heads, beside_bodies, late_request, many, inherited]
+             told, audits, beside_idle, beside_heads, beside_bodies, late_request, burst, many, inherited]
     has_curl = bool(installed.find('curl'))
     if has_curl:
         parts.append(forms)
