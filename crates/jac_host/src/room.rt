@@ -167,6 +167,7 @@ impl Room {
         if left.is_zero() {
             first.end();
             self.let_go = self.let_go.saturating_add(1);
+            let _ = self.tell_let_go(now);
         }
         Ok(Some(left))
     }
