@@ -38,11 +38,21 @@ choose() {
     fi
 }
 
+# The command that runs the program on these words: where one of them is a folder, as an application may be, by the
+# script that puts it together.
+choose_command() {
+    command=("$program")
+    local word
+    for word in "$@"; do
+        [ ! -d "$word" ] || command=(python3 "$top/tools/run_folder.py" "$program")
+    done
+}
+
 # A command that ends by itself. Where it refuses an application, standard error has the place, with a mark under it.
 run_to_end() {
-    [ -z "${JAC_PROVED-}" ] || exec "$program" "$@"
+    [ -z "${JAC_PROVED-}" ] || exec "${command[@]}" "$@"
     local status=0
-    "$program" "$@" || status=$?
+    "${command[@]}" "$@" || status=$?
     [ $status -ne 2 ] || put_finger "$@"
     exit $status
 }
@@ -52,11 +62,12 @@ put_finger() {
 }
 
 choose
+choose_command "$@"
 case ${1-} in
     check | replay | dump | demo | upgrade | why) run_to_end "$@" ;;
     serve)
         [ -n "${JAC_PROVED-}" ] || put_finger "$@"
-        exec "$program" "$@"
+        exec "${command[@]}" "$@"
         ;;
     *) exec "$program" "$@" ;;
 esac

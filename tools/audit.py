@@ -1,7 +1,7 @@
 #!/usr/bin/env python3
 """Tells the lines of an audit in words: who asked, what was answered, and which guarded fields of which records are
 shown to the viewer as they are, or which hidden records stand for the viewer.
-Words: the application's file, the audit's file, and, where there is one, the file of the events that were answered,
+Words: the application's file or folder, the audit's file, and, where there is one, the file of the events that were answered,
 whose `ask` lines tell which view was asked.
 
 A line is `K STATUS VIEWER SHOWN`: the number of the reply, its status, the record of the viewer or `-`, and the labels
@@ -14,6 +14,7 @@ import sys
 
 sys.dont_write_bytecode = True
 sys.path.insert(0, os.path.dirname(os.path.abspath(__file__)))
+import assemble                                                             # noqa: E402
 import finger                                                               # noqa: E402
 
 
@@ -82,8 +83,7 @@ def told(names, line, asks):
 def main(words):
     if len(words) not in (2, 3):
         sys.exit(__doc__)
-    with open(words[0], 'rb') as file:
-        names = Names(file.read())
+    names = Names(assemble.read_or_exit(words[0]))
     asks = asked(words[2]) if len(words) == 3 else {}
     with open(words[1], encoding='utf-8', errors='replace') as file:
         for line in file.read().split('\n'):

@@ -1,14 +1,20 @@
 #!/usr/bin/env python3
 """Puts a finger on the place that the line of a refused application means.
 
-Words: the program, and the application's file. The program is asked for its line (`check`), the same text is read
+Words: the program, and the application's file or folder. The program is asked for its line (`check`), the same text is read
 once more here, and where both find the same fault, standard error shows the file, the line and the column, the text
 with a mark under it, and in words what was expected and what stands there. It changes nothing: the line, the status
-and whatever is stored are the program's alone. Where the two readings don't agree, nothing is shown."""
+and whatever is stored are the program's alone. Where the two readings don't agree, nothing is shown. Of a folder the place
+is that in its part."""
+import os
 import re
 import subprocess
 import sys
 import unicodedata
+
+sys.dont_write_bytecode = True
+sys.path.insert(0, os.path.dirname(os.path.abspath(__file__)))
+import assemble                                                             # noqa: E402
 
 LIMIT = 1048576
 EXPRESSIONS = ['get', 'live', 'add', 'sub', 'mul', 'eq', 'lt', 'and', 'or', 'not', 'cat', 'str', 'pick', 'count', 'sum',
@@ -1004,12 +1010,39 @@ def width(text):
 
 
 def marked(data, at, end):
+    part = part_of(data, at)
+    if part:
+        return marked_part(data, at, end, *part)
     begin = data.rfind(b'\n', 0, at) + 1
     stop = data.find(b'\n', at)
     stop = len(data) if stop < 0 else stop
-    before = data[begin:at].decode('utf-8', 'replace').expandtabs(1)
-    marks = data[at:max(at, min(end, stop))].decode('utf-8', 'replace').expandtabs(1)
-    behind = data[max(at, min(end, stop)):stop].decode('utf-8', 'replace').expandtabs(1)
+    return marked_line(data[begin:at].decode('utf-8', 'replace'),
+                       data[at:max(at, min(end, stop))].decode('utf-8', 'replace'),
+                       data[max(at, min(end, stop)):stop].decode('utf-8', 'replace'))
+
+
+def part_of(data, at):
+    """The file, the line and the column in a part that a byte is of, where the application is a folder."""
+    return data.place(at) if isinstance(data, assemble.Application) else None
+
+
+def marked_part(data, at, end, path, line, column):
+    """The line of a part with a mark. Where its value was put in, the mark is under what asks for the value."""
+    try:
+        text = assemble.line_of(path, line)
+    except (OSError, IndexError, UnicodeDecodeError):
+        return marked(bytes(data), at, end)
+    last = part_of(data, max(at, end - 1))
+    same_line = last is not None and last[:2] == (path, line) and last[2] >= column
+    until = last[2] if same_line else len(text)
+    value = re.match(r'\[\[.*?\]\]', text[column - 1:])
+    if data.piece(at).is_value and value:
+        until = column - 1 + value.end()
+    return marked_line(text[:column - 1], text[column - 1:until], text[until:])
+
+
+def marked_line(before, marks, behind):
+    before, marks, behind = before.expandtabs(1), marks.expandtabs(1), behind.expandtabs(1)
     if len(before) > 60:
         before = '..' + before[-58:]
     if len(marks) > 60:
@@ -1019,8 +1052,8 @@ def marked(data, at, end):
 
 
 def where(data, name, at):
-    line, column = line_and_column(data, at)
-    return '%s:%d:%d' % (name, line, column)
+    part = part_of(data, at)
+    return '%s:%d:%d' % (part if part else (name, *line_and_column(data, at)))
 
 
 def view_around(data, at):
@@ -1059,34 +1092,37 @@ def finger(data, line):
 TAKEN = {'check': 1, 'replay': 1, 'serve': 1, 'dump': 1, 'upgrade': 2, 'why': 1}
 
 
-def applications_in(words):
-    """The files of the applications among the words of a command."""
-    found, left, plain = [], list(words[1:]), False
-    while left:
-        word = left.pop(0)
+def places_of_applications(words):
+    """Where the applications are among the words of a command."""
+    found, place, plain = [], 1, False
+    while place < len(words):
+        word = words[place]
         if not plain and word == '--':
             plain = True
         elif not plain and word in ('--db', '--sessions', '--audit'):
-            left = left[1:]
+            place += 1
         elif plain or word == '-' or not word.startswith('-'):
-            found.append(word)
+            found.append(place)
+        place += 1
     return found[:TAKEN.get(words[0], 0)] if words else []
 
 
 def refusal(program, name):
     """The line by which the program refuses this application, or None."""
     told = subprocess.run([program, 'check', '--', name], stdin=subprocess.DEVNULL, stdout=subprocess.PIPE,
-                          stderr=subprocess.DEVNULL, check=False)
+                          stderr=subprocess.DEVNULL, check=False, close_fds=False)
     line = told.stdout.decode('utf-8', 'replace').rstrip('\n')
     return line if told.returncode == 2 and line.startswith('app: ') else None
 
 
 def main(words):
-    for name in applications_in(words[1:]):
-        line = refusal(words[0], name)
+    for name in [words[1:][place] for place in places_of_applications(words[1:])]:
+        try:
+            data = assemble.read(name)
+        except (OSError, assemble.Fault):
+            return
+        line = refusal(words[0], assemble.path_of(data) if isinstance(data, assemble.Application) else name)
         if line:
-            with open(name, 'rb') as file:
-                data = file.read()
             fault = finger(data, line)
             if fault:
                 print(shown_fault(data, name, fault), file=sys.stderr)

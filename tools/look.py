@@ -1,5 +1,5 @@
 #!/usr/bin/env python3
-"""A second look at an application that is well: places to think about. Words: the application's file.
+"""A second look at an application that is well: places to think about. Words: the application's file or folder.
 
 It never says that something is wrong, and what it doesn't see it says nothing of. It looks for
 
@@ -22,6 +22,7 @@ import urllib.parse
 
 sys.dont_write_bytecode = True
 sys.path.insert(0, os.path.dirname(os.path.abspath(__file__)))
+import assemble                                                             # noqa: E402
 import finger                                                               # noqa: E402
 
 STORES = {'create': 'a create', 'update': 'an update', 'delete': 'a delete'}
@@ -252,8 +253,7 @@ def listed(fields):
 def main(words):
     if len(words) != 1:
         sys.exit(__doc__)
-    with open(words[0], 'rb') as file:
-        data = file.read()
+    data = assemble.read_or_exit(words[0])
     try:
         look = Look(data, words[0])
     except (finger.TreeFault, finger.Fault, IndexError, KeyError, AttributeError):

@@ -1,7 +1,7 @@
 #!/usr/bin/env python3
 """Tells in words what `why` put: what the viewer is shown, and for whatever else is guarded which policy stands
 against it, with its text and where that stands.
-Words: the application's file, and, where there is one, the file of the lines; else they are read from standard input,
+Words: the application's file or folder, and, where there is one, the file of the lines; else they are read from standard input,
 as in `./jac why examples/calendar.app 8192 --db raid.db | python3 tools/why.py examples/calendar.app`.
 
 The first line is `shown LABELS`, each further one `LABEL MODEL ID GROUP because LABEL MODEL ID GROUP`: the guarded fields
@@ -15,6 +15,7 @@ import os
 
 sys.dont_write_bytecode = True
 sys.path.insert(0, os.path.dirname(os.path.abspath(__file__)))
+import assemble                                                             # noqa: E402
 import audit                                                                # noqa: E402
 import finger                                                               # noqa: E402
 
@@ -35,8 +36,8 @@ class Policies:
             return 'a policy that %s does not have' % self.path
         policy = self.groups[model][group]
         text = self.data[policy.start:policy.end].decode('utf-8', errors='replace')
-        line = self.data.count(b'\n', 0, policy.start) + 1
-        return '%s:%d: %s' % (self.path, line, ' '.join(text.split()))
+        place = finger.where(self.data, self.path, policy.start).rpartition(':')[0]
+        return '%s: %s' % (place, ' '.join(text.split()))
 
 
 def named(names, label):
@@ -71,8 +72,7 @@ def told(names, policies, line):
 def main(words):
     if len(words) not in (1, 2):
         sys.exit(__doc__)
-    with open(words[0], 'rb') as file:
-        data = file.read()
+    data = assemble.read_or_exit(words[0])
     names, policies = audit.Names(data), Policies(words[0], data)
     with open(words[1], encoding='utf-8', errors='replace') if len(words) == 2 else sys.stdin as file:
         for line in file:
