@@ -26,8 +26,7 @@ import proved
 from serving import HOST, served
 
 TOP = os.path.dirname(os.path.dirname(os.path.abspath(__file__)))
-PROGRAM = proved.program(sys.argv[1])
-PICTURES = os.path.abspath(sys.argv[2]) if len(sys.argv) > 2 else None
+PROGRAM = PICTURES = None
 NAMES = 'chromium', 'chromium-browser', 'google-chrome'
 WAIT = 60
 BROWSERS = 4        # that a walk is given, one after another, where one can't take a step
@@ -49,6 +48,9 @@ SEND = '''((end, fields) => {
   }
   form.requestSubmit();
 })(%s, %s)'''
+# Presses the button with this text in the form whose action ends so.
+PRESS = '''((end, text) => Array.from(document.querySelectorAll(`form[action$="${end}"] button`))
+  .find((button) => button.textContent === text).click())(%s, %s)'''
 FOLLOW = 'Array.from(document.links).find((link) => link.text === %s).click()'
 TEXT = 'document.body.innerText'
 
@@ -171,6 +173,9 @@ class Page:
     def send(self, end, **fields):
         return self.loaded(self.run, SEND % (json.dumps(end), json.dumps(fields)))
 
+    def press(self, end, text):
+        return self.loaded(self.run, PRESS % (json.dumps(end), json.dumps(text)))
+
 
 def shows(name, page, *texts, but=(), status=200):
     """The page has this status, shows these texts and none of those."""
@@ -218,7 +223,7 @@ def conference(page):
     yield shows('for who has a conflict', page.go('/') and page.follow('Lattices for lunch'), but=['Tasty.'])
     page.be('carol')
     yield shows('for the chair', page.go('/') and page.follow('Lattices for lunch'), 'Tasty.', 'Rita')
-    yield shows('a decision', page.send('/decision', accept=True), 'accepted')
+    yield shows('a decision', page.press('/decision', 'Accept the paper'), 'accepted')
     page.be('ann')
     yield shows('before it is published', page.go('/'), 'pending', but=['accepted'])
     page.be('carol')
@@ -409,6 +414,9 @@ def in_turn(program, folder):
 
 
 def main():
+    global PROGRAM, PICTURES
+    PROGRAM = proved.program(sys.argv[1])
+    PICTURES = os.path.abspath(sys.argv[2]) if len(sys.argv) > 2 else None
     installed.need(NAMES)
     found, results = installed.find(*NAMES), []
     # what the browser still writes as it ends may be left behind
@@ -423,4 +431,5 @@ def main():
     sys.exit(1 if failed else 0)
 
 
-main()
+if __name__ == '__main__':
+    main()

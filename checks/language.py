@@ -186,6 +186,8 @@ def uncited(folder, block):
     """What the page of a folder cites and the folder hasn't."""
     if block.startswith('(') and textwrap.indent(block, ' ') not in beside(folder, 'app', 'next/app'):
         return '%s: not in its application: %s' % (folder, block)
+    if block.startswith('<') and block not in beside(folder, 'pages/export.html'):
+        return '%s: not in its pages: %s' % (folder, block)
     told = beside(folder, 'audit', 'next/audit', 'why').splitlines()
     lines = [line for line in block.splitlines() if line[:1].isdigit() and line not in told]
     return '%s: not in its audit, nor told by why: %s' % (folder, lines[0]) if lines else None

@@ -190,7 +190,7 @@ class Look:
             return
         for view in self.checker.views:
             shape = self.shape(view.children[2].value.decode('utf-8', 'replace'))
-            if shape != '/' and shape not in led and not (shape == '/*' and self.is_missing(view)):
+            if shape != '/' and shape not in led and not (set(shape) <= set('/*') and self.is_missing(view)):
                 self.at(view.children[2], 'no page of this application leads here by a link, a form or a redirect; it may '
                         'be there for a script')
 
