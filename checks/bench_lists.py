@@ -20,7 +20,7 @@ import time
 import proved
 from bench import bar
 from bench_examples import id_of
-from bench_records import ONE, Calendar, Conference, Line, made, name_of, requests_for, write_app
+from bench_records import ONE, Calendar, Conference, Line, known, made, requests_for, write_app
 from serving import served
 
 SIZES = [64, 1024, 4096]
@@ -28,6 +28,11 @@ BARRED = 1024, 4096
 ROUNDS = 7
 PLACES = {'memory': (), 'file': ('--db', 'store')}
 ASKED = 'a POST', 'list, first', 'list, again'
+
+
+def table(caption, *heads):
+    return "<table>\n<caption class='away'>%s</caption>\n<tr>%s</tr>\n" % (
+        caption, ''.join("<th scope='col'>%s</th>" % head for head in heads))
 
 
 class Events(Calendar):
@@ -44,14 +49,15 @@ class Events(Calendar):
     @staticmethod
     def rows(base, viewer):
         comes = {event for event, in base.execute('select event from guest where person = ?', (viewer,))}
-        yield '<table>\n<tr><th>Day</th><th>What</th><th>Where</th><th>Host</th></tr>\n'
+        yield table('All events by day', 'Day', 'What', 'Where', 'Host')
         for event, title, place, day, host, name, is_open in base.execute(
                 'select event.id, title, place, day, host, name, open from event join person on person.id = host '
                 'order by day, event.id'):
             if not (is_open or viewer is not None and (host == viewer or event in comes)):
                 title, place = 'busy', ''
-            yield "<tr><td class='day'>%s</td><td><a href='/event/%d'>%s</a></td><td>%s</td><td>%s</td></tr>\n" % (
-                html.escape(day), event, html.escape(title), html.escape(place), html.escape(name))
+            day, title, place, name = map(html.escape, (day, title, place, name))
+            yield "<tr><td class='day'>%s</td><td><a href='/event/%d' aria-label='%s, %s, %s'>%s</a></td><td>%s</td>" \
+                "<td class='name'>%s</td></tr>\n" % (day, event, title, day, name, title, place, name)
 
     @staticmethod
     def forms(base, viewer, tail):
@@ -78,13 +84,14 @@ class Papers(Conference):
         reviews = {}
         for paper, reviewer, score in base.execute('select paper, reviewer, score from review'):
             reviews.setdefault(paper, []).append((reviewer, score))
-        yield '<table>\n<tr><th>Title</th><th>Decision</th><th>Reviews</th><th>Points</th></tr>\n'
+        yield table('All papers by title', 'Title', 'Decision', 'Reviews', 'Points')
         for title, paper, decision in sorted(Papers.seen(base, decided, wrote)):
             of_paper = reviews.get(paper, ())
             known = [score for reviewer, score in of_paper if reviewer == viewer or decided and paper in wrote]
-            yield "<tr><td><a href='/paper/%d'>%s</a></td><td>%s</td><td>%d</td><td>%s</td></tr>\n" % (
-                paper, html.escape(title), html.escape(decision), len(of_paper),
-                '%d, %d known' % (sum(known), len(known)) if known else '')
+            yield "<tr><td><a href='/paper/%d' aria-label='%s, paper %d'>%s</a></td><td class='short'>%s</td><td>%d</td>" \
+                "<td class='short'>%s</td></tr>\n" % (
+                    paper, html.escape(title), paper, html.escape(title), html.escape(decision), len(of_paper),
+                    '%d, %d known' % (sum(known), len(known)) if known else '')
 
     @staticmethod
     def seen(base, decided, wrote):
@@ -139,8 +146,8 @@ def app_of(kind, base, number, page):
     """The application, whose next POST has this number. What stands before and behind the list is as in the page."""
     import flask
     app = flask.Flask('bench')
-    head, tail = page.partition('You are')[0], page.partition('</table>\n')[2]
-    between = page.partition('</nav>\n')[2].partition('<table>\n')[0]
+    head, tail = page.partition('<p>You are')[0], page.partition('</table>\n')[2]
+    between = page.partition('</header>\n')[2].partition('<table>\n')[0]
     numbers = iter(range(number, number + ROUNDS))
 
     def viewer():
@@ -149,9 +156,8 @@ def app_of(kind, base, number, page):
 
     def listed():
         asks = viewer()
-        known = 'Nobody is logged in.' if asks is None else 'You are %s.' % html.escape(name_of(base, asks))
         rows = ''.join(kind.rows(base, asks))
-        return head + known + '</nav>\n' + between + rows + '</table>\n' + kind.forms(base, asks, tail)
+        return head + known(base, asks) + between + rows + '</table>\n' + kind.forms(base, asks, tail)
 
     def added():
         asks = viewer()

@@ -71,27 +71,34 @@ create index guests on guest (event);
         yield '. The host is %s.</p>\n' % html.escape(name_of(base, host))
         if guests:
             yield '<h2>Guests</h2>\n<ul>\n'
-            for _, _, name in guests:
-                yield '<li>%s</li>\n' % (html.escape(name) if hosts or comes else 'a guest')
+            for number, _, name in guests:
+                yield '<li>%s' % (html.escape(name) if hosts or comes else 'a guest')
+                yield " <form class='inline' method='post' action='/guest/%d/remove'><button class='quiet'>Take %s off the " \
+                    "list</button></form>" % (number, html.escape(name)) if hosts else ''
+                yield '</li>\n'
             yield '</ul>\n'
         if hosts:
             yield from Calendar.forms(base, viewer, event, guests, is_open)
 
     @staticmethod
     def forms(base, viewer, event, guests, is_open):
-        others = base.execute('select id, name from person where id <> ? order by name, id', (viewer,)).fetchall()
+        invited = {person for _, person, _ in guests}
+        others = [(number, name) for number, name in base.execute(
+            'select id, name from person where id <> ? order by name, id', (viewer,)) if number not in invited]
         if others:
-            yield "<form method='post' action='/event/%d/guests'>\n<label>Invite <select name='person'>" % event
+            yield "<form class='fields' method='post' action='/event/%d/guests'>\n<h2>A further guest</h2>\n" % event
+            yield "<input type='hidden' name='seen' value='%d'>\n\n<label>Person <select name='person'>" % len(guests)
             for number, name in others:
                 yield "<option value='%d'>%s</option>" % (number, html.escape(name))
             yield '</select></label>\n<button>Invite</button>\n</form>\n'
-        for number, _, name in guests:
-            yield "<form method='post' action='/guest/%d/remove'><button>Take %s off the list</button></form>\n" % (
-                number, html.escape(name))
-        yield "<form method='post' action='/event/%d/open'>\n<input type='hidden' name='open' value='%d'>\n" % (
-            event, not is_open)
-        yield '<button>%s</button>\n</form>\n' % ('Close the event' if is_open else 'Let everybody see it')
-        yield "<form method='post' action='/event/%d/remove'><button>Remove the event</button></form>\n" % event
+        yield '<h2>Your event</h2>\n<p>%s</p>\n' % (
+            'Everybody may see it.' if is_open else 'Its guests and you see what it is.')
+        yield "<div class='actions'>\n<form method='post' action='/event/%d/open'>\n" % event
+        yield "<input type='hidden' name='open' value='%d'>\n<button>%s</button>\n</form>\n" % (
+            not is_open, 'Close the event' if is_open else 'Let everybody see it')
+        yield '<details>\n<summary>Remove the event</summary>\n'
+        yield "<form method='post' action='/event/%d/remove'><button class='danger'>Remove it, with its guests, for good" \
+            '</button></form>\n</details>\n</div>\n' % event
 
 
 class Conference:
@@ -149,7 +156,7 @@ insert into conference values (1, 0);
         if not (decided and (accepted or wrote)):
             decision = 'pending'
         yield '<h1>%s</h1>\n<p>Decision: %s</p>\n' % (html.escape(title), html.escape(decision))
-        yield '<p>%s</p>\n' % html.escape(abstract) if abstract else ''
+        yield "<p class='text'>%s</p>\n" % html.escape(abstract) if abstract else ''
         yield '<h2>Authors</h2>\n<ul>\n'
         for _, name in authors:
             yield '<li>%s</li>\n' % (html.escape(name) if accepted or wrote else 'somebody')
@@ -168,13 +175,20 @@ insert into conference values (1, 0);
     def reviews(base, viewer, paper, known):
         rows = base.execute('select reviewer, score, words from review where paper = ? order by id', (paper,)).fetchall()
         if rows:
-            yield '<h2>Reviews</h2>\n<table>\n<tr><th>Reviewer</th><th>Score</th><th>Words</th></tr>\n'
+            yield "<h2>Reviews</h2>\n<table>\n<caption class='away'>Reviews of this paper</caption>\n<tr>"
+            yield "<th scope='col'>Reviewer</th><th scope='col'>Score</th><th scope='col'>Words</th></tr>\n"
             for reviewer, score, words in rows:
                 mine = viewer is not None and reviewer == viewer
-                yield '<tr><td>%s</td><td>%s</td><td>%s</td></tr>\n' % (
+                yield "<tr><td class='name'>%s</td><td>%s</td><td class='text'>%s</td></tr>\n" % (
                     html.escape(name_of(base, reviewer)) if mine else 'a reviewer',
                     score if known or mine else '', html.escape(words) if known or mine else 'not shown')
             yield '</table>\n'
+
+
+def known(base, viewer):
+    """What the top of a page says of who looks."""
+    said = "Nobody is logged in. <a href='/login'>Log in</a>"
+    return '<p>%s</p>\n</header>\n' % (said if viewer is None else 'You are %s.' % html.escape(name_of(base, viewer)))
 
 
 def name_of(base, person):
@@ -275,12 +289,15 @@ def by_flask(kind, count, pages):
     for request in requests:
         kind.fill(base, ONE, OTHER, request)
     app = flask.Flask('bench')
-    head = next(iter(pages.values())).partition('You are')[0].partition('Nobody is')[0]
+    first = next(iter(pages.values()))
+    before, after = first.partition('<title>')[0] + '<title>', ' - ' + first.partition('</title>')[0].rpartition(' - ')[2]
+    after += '</title>' + first.partition('</title>')[2].partition('<p>')[0]
 
     def page(record):
         viewer = flask.request.cookies.get('session', type=int)
-        known = 'Nobody is logged in.' if viewer is None else 'You are %s.' % html.escape(name_of(base, viewer))
-        return head + known + '</nav>\n' + ''.join(kind.page(base, viewer, record))
+        body = ''.join(kind.page(base, viewer, record))
+        title = body.partition('</h1>')[0].partition('<h1>')[2]
+        return before + title + after + known(base, viewer) + '<main>\n' + body + '</main>\n</body>\n</html>\n'
 
     app.add_url_rule(kind.path.replace('%d', '<int:record>'), 'page', page)
     found, path = {}, kind.path % one_of(kind, requests)

@@ -22,10 +22,10 @@ CASES = {
     'a_hidden_number_is_a_number': [(7, 33, 'makes a Score with this points'), (9, 41, 'points of Score is added up')],
 }
 EXAMPLES = {
-    'examples/calendar/app': [(194, 12, SCRIPT)],
-    'examples/conference/app': [(131, 17, BRANCH), (305, 12, SCRIPT)],
-    'examples/courses/app': [(61, 80, BRANCH), (262, 12, SCRIPT)],
-    'examples/health/app': [(68, 30, BRANCH), (79, 34, BRANCH), (301, 12, SCRIPT)],
+    'examples/calendar/app': [(796, 12, SCRIPT)],
+    'examples/conference/app': [(415, 17, BRANCH), (1004, 12, SCRIPT)],
+    'examples/courses/app': [(344, 80, BRANCH), (986, 12, SCRIPT)],
+    'examples/health/app': [(349, 30, BRANCH), (498, 34, BRANCH), (1070, 12, SCRIPT)],
     'examples/agenda.app': [(22, 35, BRANCH)],
     'examples/meetings.app': [(12, 13, SCRIPT), (15, 13, SCRIPT), (19, 13, SCRIPT), (20, 47, BRANCH)],
     **{'examples/%s.app' % name: [] for name in ('calendar', 'courses', 'guestbook', 'guests', 'hello', 'invitations',

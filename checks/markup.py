@@ -32,6 +32,8 @@ import proved                                                               # no
 from serving import HOST, served                                            # noqa: E402
 
 TOP = proved.TOP
+# a busy machine may start a browser late
+browser.WAIT = 120
 sys.path.insert(0, os.path.join(TOP, 'tools'))
 import assemble                                                             # noqa: E402
 
