@@ -69,5 +69,9 @@ case ${1-} in
         [ -n "${JAC_PROVED-}" ] || put_finger "$@"
         exec "${command[@]}" "$@"
         ;;
+    walk)
+        shift
+        exec python3 "$top/tools/walk.py" --program "$program" "$@"
+        ;;
     *) exec "$program" "$@" ;;
 esac

@@ -1,0 +1,392 @@
+#!/usr/bin/env python3
+"""Tests an application by walks: files of requests, each with what is expected of its reply.
+
+    as ann POST /events title="Interview" -> 303 /event/{interview}
+    as dan GET /event/{interview}
+      has "busy"
+      lacks "Interview"
+
+Each walk begins with no records, and its requests are answered by `jac replay` over a store of its own. Without WALK the
+walks are the files `walk` and `*.walk` beside the application, or NAME.walk beside NAME.app. Where a file `sessions`
+stands beside it, its tokens are names of who asks.
+
+The exit status is 0 where all is as expected, 1 where something is not, and 2 where a walk has no form, names what the
+application does not have, or cannot be run. docs/USING.md, "Walks", has the grammar."""
+import argparse
+import contextlib
+import glob
+import os
+import re
+import sqlite3
+import subprocess
+import sys
+import tempfile
+import urllib.parse
+
+sys.dont_write_bytecode = True
+sys.path.insert(0, os.path.dirname(os.path.abspath(__file__)))
+import audit                                                                # noqa: E402
+import finger                                                               # noqa: E402
+import walk_file                                                            # noqa: E402
+import walk_page                                                            # noqa: E402
+from walk_file import Malformed                                             # noqa: E402
+
+TOP = os.path.dirname(os.path.dirname(os.path.abspath(__file__)))
+REPLY = re.compile(rb'reply (\d+) "((?:[^"\\]|\\.)*)" "((?:[^"\\]|\\.)*)"\n')
+ESCAPED = re.compile(rb'\\(n|r|\\|"|x([0-9a-fA-F]{2}))')
+PLAIN = {b'n': b'\n', b'r': b'\r', b'\\': b'\\', b'"': b'"'}
+# what a browser leaves as it is in the address that it asks for
+KEPT = "!$%&'()*+,-./:;=?@_~"
+
+
+class Stopped(Exception):
+    """The program refused what it was given, or ended where it shouldn't."""
+
+
+class Application:
+    """An application's file, and what its parts are called."""
+
+    def __init__(self, path, shown=None):
+        self.path, self.shown = path, shown or path
+        with open(path, 'rb') as file:
+            data = file.read()
+        self.names = audit.Names(data)
+        self.models, self.groups = self.names.models, self.names.groups
+        checker = finger.Checker(finger.read_tree(data, list(range(len(data) + 1))))
+        self.fields = [[field.children[0].value for field in finger.fields_in(model).children[1:]]
+                       for model in checker.models]
+        self.params = {}
+        for view in checker.views:
+            names = [param.children[0].value for param in view.children[3].children[1:]]
+            self.params.setdefault(view.children[1].value.upper(), set()).update(names)
+
+    def label(self, number, field):
+        """The label under which a record's field is shown, or the record itself where no field is named; or why not."""
+        model = number % 64
+        name = self.models[model]
+        if not field:
+            if ['the record'] not in self.groups[model]:
+                return 'no group hides a %s: name a guarded field of it' % name
+            return number * 8 + self.groups[model].index(['the record'])
+        if field not in self.fields[model]:
+            return 'a %s has no field %s%s' % (name, field, walk_file.meant(field, self.fields[model]))
+        for place, group in enumerate(self.groups[model]):
+            if field in group and group != ['the record']:
+                return number * 8 + place
+        return 'the %s of a %s is not guarded, so everybody is shown it' % (field, name)
+
+
+class Reply:
+    def __init__(self, status, location, body, labels):
+        self.status, self.location, self.body, self.labels = status, location, body, labels
+
+    def line(self):
+        return '%d %s' % (self.status, self.location) if self.location else str(self.status)
+
+
+def plain(data):
+    return ESCAPED.sub(lambda found: bytes.fromhex(found[2].decode()) if found[2] else PLAIN[found[1]], data)
+
+
+def quoted(text):
+    return text.replace('\\', '\\\\').replace('"', '\\"').replace('\n', '\\n').replace('\r', '\\r')
+
+
+class Store:
+    """The records of one walk, in a file of a folder of its own."""
+
+    def __init__(self, program, folder):
+        self.program, self.folder = program, folder
+        self.file = os.path.join(folder, 'store')
+
+    def path(self, name):
+        return os.path.join(self.folder, name)
+
+    def run(self, words):
+        done = subprocess.run([*self.program, *words], stdin=subprocess.DEVNULL, stdout=subprocess.PIPE,
+                              stderr=subprocess.PIPE, check=False)
+        if done.returncode:
+            said = (done.stdout[-2000:] + done.stderr[-2000:]).decode(errors='replace')
+            raise Stopped('%s ended with status %d:\n%s' % (words[0], done.returncode, said))
+        return done.stdout
+
+    def ask(self, application, viewer, method, target, body):
+        with open(self.path('events'), 'w', encoding='utf-8', newline='\n') as file:
+            file.write('ask %s %s "%s" "%s"\n' % (viewer, method, quoted(target), quoted(body)))
+        with contextlib.suppress(FileNotFoundError):
+            os.remove(self.path('audit'))
+        out = self.run(['replay', application.path, self.path('events'), '--db', self.file, '--audit', self.path('audit')])
+        found = REPLY.fullmatch(out)
+        if not found:
+            raise Stopped('this is no reply: %r' % out[:200])
+        with open(self.path('audit'), encoding='ascii') as file:
+            shown = file.read().split()[3]
+        labels = [] if shown in ('-', 'nopage') else [int(label) for label in shown.split(',')]
+        location, text = (plain(part).decode(errors='replace') for part in found.groups()[1:])
+        return Reply(int(found[1]), location, text, labels)
+
+    def records(self):
+        """The ids of all records that have a row."""
+        if not os.path.exists(self.file):
+            return set()
+        with contextlib.closing(sqlite3.connect(self.file)) as base:
+            return {int.from_bytes(row[0], 'big') for row in base.execute('SELECT DISTINCT jid FROM rec')}
+
+    def upgrade(self, old, new):
+        self.run(['upgrade', old.path, new.path, '--db', self.file])
+
+
+def in_order(numbers):
+    """The records that one request made, in the order of their creates, and those of a loop in the loop's order."""
+    return sorted(numbers, key=lambda number: (number % audit.LOOP // 64 % 64, number // audit.LOOP))
+
+
+def address(text):
+    """A path as a browser asks for it: what may not stand in it is encoded."""
+    return urllib.parse.quote(text, safe=KEPT)
+
+
+class Walk:
+    """One walk under way: what is called what, and what was not as expected."""
+
+    def __init__(self, application, sessions, store):
+        self.application, self.sessions, self.store = application, sessions, store
+        self.ids = {name: number for name, number in sessions.items() if number != '-'}
+        self.failures, self.steps, self.reply, self.who = [], 0, None, None
+
+    def fail(self, place, source, words):
+        self.failures.append('%s:%d: %s\n%s' % (*place, source, '\n'.join('    ' + line for line in words)))
+
+    def go(self, steps, told=None):
+        for step in steps:
+            lacking = [name for name in self.names(step) if name not in self.ids and self.sessions.get(name) != '-']
+            if lacking:
+                self.fail(step.place, step.source, ['no record is called %s, since the request that should have made it made '
+                                                    'none; the walk ends here' % lacking[0]])
+                return
+            self.steps += 1
+            if step.kind == 'upgrade':
+                self.upgrade(step)
+                continue
+            self.ask(step)
+            if told:
+                told(self, step)
+            self.judge(step)
+
+    @staticmethod
+    def names(step):
+        """The names that a step and what is expected of it speak of, but for those that it gives itself."""
+        words = [step.target, step.location] + [word for _, word in step.fields]
+        words += [word for look in step.looks for word in look.texts]
+        names = [name for word in words if word for name in word.names()]
+        names += [record for look in step.looks for record, _ in look.labels]
+        names += [step.who] if step.who not in (None, 'nobody') else []
+        return [name for name in names if name not in step.gives]
+
+    def ask(self, step):
+        before = self.store.records() if step.gives else set()
+        if step.kind == 'follow':
+            self.follow(step)
+        else:
+            self.who = self.sessions.get(step.who) or self.ids.get(step.who, '-')
+            known = self.application.params.get('GET' if step.method == 'HEAD' else step.method, set())
+            for name, _ in step.fields:
+                if name not in known:
+                    raise Malformed(step.place, 'no view of %s has a parameter %s%s'
+                                    % (step.method, name, walk_file.meant(name, sorted(known))))
+            target = address(step.target.text(self.ids))
+            form = urllib.parse.urlencode([(name, word.text(self.ids)) for name, word in step.fields])
+            if step.method != 'POST' and form:
+                target, form = target + ('&' if '?' in target else '?') + form, ''
+            self.reply = self.store.ask(self.application, self.who, step.method, target, form)
+        if step.gives:
+            self.name(step, in_order(self.store.records() - before))
+
+    def follow(self, step):
+        if not self.reply.location.startswith('/'):
+            raise Malformed(step.place, 'the reply before has no location of this application: %s' % self.reply.line())
+        self.reply = self.store.ask(self.application, self.who, 'GET', self.reply.location, '')
+
+    def name(self, step, made):
+        """Gives the names of a step to the records that it made."""
+        if len(made) < len(step.gives):
+            models = ', '.join(self.application.models[number % 64] for number in made) or 'none'
+            self.fail(step.place, step.source, ['- records for %s' % ', '.join(step.gives),
+                                                '+ the request made %s; the reply is %s' % (models, self.reply.line())])
+        for name, number in zip(step.gives, made):
+            if name == '_':
+                continue
+            if self.sessions.get(name, number) != number:
+                self.fail(step.place, step.source, ['- %s %s, in the sessions' % (name, self.sessions[name]),
+                                                    '+ %s %d, which was made' % (name, number)])
+            self.ids[name] = number
+
+    def upgrade(self, step):
+        try:
+            new = Application(step.file)
+        except OSError as error:
+            raise Malformed(step.place, str(error)) from None
+        self.store.upgrade(self.application, new)
+        self.application = new
+
+    def judge(self, step):
+        lacking = [name for name in step.gives if name != '_' and name not in self.ids]
+        self.judge_status(step, lacking)
+        for look in step.looks:
+            if any(name in lacking for word in look.texts for name in word.names()) or \
+                    any(record in lacking for record, _ in look.labels):
+                continue
+            wrong = self.of_labels(look) if look.kind in ('shows', 'hides', 'only') else \
+                walk_page.wrong(self.reply.body, look.kind, [word.text(self.ids) for word in look.texts])
+            if wrong:
+                asked = ['asked by line %d: %s' % (step.place[1], step.source)]
+                self.fail(look.place, look.source, asked + wrong)
+
+    def judge_status(self, step, lacking):
+        if step.status is None:
+            if self.reply.status not in (200, 303):
+                self.fail(step.place, step.source, ['- 200 or 303, as nothing else is said', '+ ' + self.reply.line()])
+            return
+        wanted = None
+        if step.location and not set(step.location.names()) & set(lacking):
+            wanted = urllib.parse.quote(step.location.text(self.ids), safe=''.join(map(chr, range(33, 127))))
+        if self.reply.status != step.status or wanted not in (None, self.reply.location):
+            self.fail(step.place, step.source, ['- %d%s' % (step.status, ' ' + wanted if wanted else ''),
+                                                '+ ' + self.reply.line()])
+
+    def of_labels(self, look):
+        """What is wrong with the labels of the page, in words; nothing where it is as expected."""
+        wanted = {}
+        for record, field in look.labels:
+            number = self.application.label(self.ids[record], field)
+            if isinstance(number, str):
+                raise Malformed(look.place, number)
+            wanted[number] = '%s.%s' % (record, field) if field else record
+        shown = set(self.reply.labels)
+        if look.kind == 'hides':
+            wrong = ['- ' + name + ' is hidden' for number, name in wanted.items() if number in shown]
+        else:
+            wrong = ['- ' + name for number, name in wanted.items() if number not in shown]
+        if look.kind == 'only':
+            wrong += ['+ ' + self.told(number) for number in sorted(shown - set(wanted))]
+        return wrong + ['what is shown: ' + (', '.join(self.told(number) for number in sorted(shown)) or 'nothing that is '
+                                             'guarded')] if wrong else None
+
+    def told(self, label):
+        """A label by the names that the walk gave, or else as the audit in words has it."""
+        record = next((name for name, number in self.ids.items() if number == label // 8), None)
+        text, fields = self.application.names.label(label)
+        text = record or text
+        return text if fields in ('the record', '') else '%s.%s' % (record, fields.split(', ')[0]) if record else \
+            '%s: %s' % (text, fields)
+
+
+def sessions_of(path):
+    """Who each token of a sessions file stands for."""
+    with open(path, encoding='ascii', errors='replace') as file:
+        rows = [line.split() for line in file if line.strip()]
+    found = {}
+    for row in rows:
+        if len(row) == 2 and walk_file.NAME.fullmatch(row[0]):
+            found.setdefault(row[0], '-' if row[1] == '-' else int(row[1]) if row[1].isdigit() else '-')
+    return found
+
+
+def beside(application, name):
+    """A file beside an application, and in its folder where it is one."""
+    folder = application if os.path.isdir(application) else os.path.dirname(application)
+    return os.path.join(folder, name)
+
+
+def walks_of(application):
+    name = os.path.basename(application)
+    if not os.path.isdir(application) and name.endswith('.app'):
+        return glob.glob(glob.escape(application[:-len('.app')]) + '.walk')
+    return [path for path in [beside(application, 'walk')] if os.path.exists(path)] + \
+        sorted(glob.glob(os.path.join(glob.escape(beside(application, '')), '*.walk')))
+
+
+@contextlib.contextmanager
+def read_application(path):
+    """An application's file; where it is a folder, what that is put together to."""
+    if not os.path.isdir(path):
+        yield path
+        return
+    raise Malformed((path, 1), 'a folder cannot be put together here')
+
+
+def tell(walk, step):
+    """What `--verbose` says of a step: its reply, what was made and which labels are shown."""
+    named = ', '.join('%s = %s' % (name, walk.ids.get(name)) for name in step.gives if name != '_')
+    print('%s:%d: %s\n    %s%s\n    shows %s' % (
+        *step.place, step.source, walk.reply.line(), ', ' + named if named else '',
+        ', '.join(walk.told(number) for number in walk.reply.labels) or 'nothing'))
+    for line in walk_page.lines(walk.reply.body):
+        print('    | ' + line)
+
+
+def walked(program, path, application, sessions, verbose):
+    """Whether one walk went as expected; says what was not."""
+    steps = walk_file.read(path, sessions)
+    with tempfile.TemporaryDirectory() as folder:
+        walk = Walk(application, sessions, Store(program, folder))
+        try:
+            walk.go(steps, tell if verbose else None)
+        finally:
+            for failure in walk.failures:
+                print(failure)
+    looks = sum(len(step.looks) for step in steps)
+    print('%s: %d steps, %d expectations after them, %s' % (
+        path, walk.steps, looks, '%d not met' % len(walk.failures) if walk.failures else 'all met'))
+    return not walk.failures
+
+
+def refusal(program, path):
+    """What the program says against an application, with the finger on the place; nothing where it is well."""
+    done = subprocess.run([*program, 'check', path], stdin=subprocess.DEVNULL, stdout=subprocess.PIPE,
+                          stderr=subprocess.STDOUT, check=False)
+    if not done.returncode:
+        return None
+    said = done.stdout.decode(errors='replace')
+    if program != [os.path.join(TOP, 'jac')]:
+        told = subprocess.run([sys.executable, os.path.join(TOP, 'tools', 'finger.py'), *program, 'check', path],
+                              stdout=subprocess.PIPE, stderr=subprocess.STDOUT, check=False)
+        said += told.stdout.decode(errors='replace')
+    return said
+
+
+def parser():
+    words = argparse.ArgumentParser(prog='walk', description=__doc__, formatter_class=argparse.RawDescriptionHelpFormatter)
+    words.add_argument('application', metavar='APP', help='the application: a file, or a folder that has its parts')
+    words.add_argument('walks', metavar='WALK', nargs='*', help='the walks, or none for those beside the application')
+    words.add_argument('--sessions', metavar='FILE', help='the sessions whose tokens are names of who asks')
+    words.add_argument('--verbose', '-v', action='store_true', help='say what each request was answered')
+    words.add_argument('--program', metavar='PROGRAM', default=os.path.join(TOP, 'jac'),
+                       help='the program that answers, or the script jac, which chooses it')
+    return words
+
+
+def main():
+    given = parser().parse_args()
+    program, failed = [given.program], 0
+    try:
+        sessions = given.sessions or beside(given.application, 'sessions')
+        known = sessions_of(sessions) if given.sessions or os.path.exists(sessions) else {}
+        walks = given.walks or walks_of(given.application)
+        if not walks:
+            raise Stopped('%s has no walk beside it: write one, docs/USING.md says how' % given.application)
+        with read_application(given.application) as path:
+            said = refusal(program, path)
+            if said:
+                raise Stopped('%s is refused:\n%s' % (given.application, said))
+            application = Application(path, given.application)
+            for walk in walks:
+                failed += not walked(program, walk, application, known, given.verbose)
+    except (Malformed, Stopped, OSError) as fault:
+        print('walk: %s' % fault if not isinstance(fault, Malformed) else fault)
+        return 2
+    return 1 if failed else 0
+
+
+if __name__ == '__main__':
+    sys.exit(main())

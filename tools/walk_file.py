@@ -1,0 +1,335 @@
+"""Reads walks: files of steps that test an application. docs/USING.md, "Walks", has the grammar.
+
+`read` returns the steps of a file, each with what is expected of its reply. A file that has no form is refused with
+the number of its line."""
+import difflib
+import os
+import re
+
+NAME = re.compile(r'[A-Za-z][A-Za-z0-9_-]*')
+FIELD = re.compile(r'[A-Za-z][A-Za-z0-9_-]*')
+METHOD = re.compile(r'[A-Z]{1,15}')
+ESCAPES = {'n': '\n', 'r': '\r', 't': '\t', '\\': '\\', '"': '"', '{': '{'}
+OF_TEXTS = ('has', 'lacks', 'is')
+OF_LABELS = ('shows', 'hides')
+BEGINNINGS = ('as', 'follow', 'include', 'upgrade') + OF_TEXTS + OF_LABELS
+MOST_INCLUDES = 16
+
+
+class Malformed(Exception):
+    """A line that has no form, or means nothing in this application."""
+
+    def __init__(self, place, words):
+        super().__init__('%s:%d: %s' % (*place, words))
+
+
+class Word:
+    """A word of a line: texts, and the names in braces that stand for ids, as lists of one name each."""
+
+    def __init__(self):
+        self.parts, self.quoted = [], False
+
+    def add(self, text):
+        if self.parts and isinstance(self.parts[-1], str):
+            self.parts[-1] += text
+        else:
+            self.parts.append(text)
+
+    def plain(self):
+        """The word as it stands, where it has neither quotes nor names in braces."""
+        return self.parts[0] if len(self.parts) == 1 and not self.quoted and isinstance(self.parts[0], str) else None
+
+    def names(self):
+        return [part[0] for part in self.parts if isinstance(part, list)]
+
+    def text(self, ids):
+        return ''.join(part if isinstance(part, str) else str(ids[part[0]]) for part in self.parts)
+
+    def split(self, mark):
+        """The text before the first mark, and the word after it; nothing where the word doesn't begin with text."""
+        if not self.parts or not isinstance(self.parts[0], str) or mark not in self.parts[0]:
+            return None
+        before, _, after = self.parts[0].partition(mark)
+        rest = Word()
+        rest.parts, rest.quoted = ([after] if after else []) + self.parts[1:], True
+        return before, rest
+
+
+class Line:
+    """The words of a line, which is read from left to right."""
+
+    def __init__(self, place, text):
+        self.place, self.source, self.at = place, ' '.join(text.split()), 0
+        self.words, self.ends = [], True
+        self.cut(text)
+
+    def bad(self, words):
+        return Malformed(self.place, words)
+
+    def cut(self, text):
+        at, word, inside = 0, None, False
+        while at < len(text):
+            sign = text[at]
+            if not inside and sign.isspace():
+                word = None
+            elif not inside and sign == '#' and word is None:
+                break
+            elif not inside and sign == '\\' and word is None and not text[at + 1:].strip():
+                self.ends = False
+                break
+            else:
+                if word is None:
+                    word = Word()
+                    self.words.append(word)
+                inside, at = self.put(word, text, at, inside)
+            at += 1
+        if inside:
+            raise self.bad('a text in quotes has no end on this line; \\n in it is a line feed')
+
+    def put(self, word, text, at, inside):
+        """Adds what stands at this place to the word: whether a text in quotes is open then, and the place of its end."""
+        if text[at] == '"':
+            word.quoted = True
+            word.add('')
+            return not inside, at
+        if inside and text[at] == '\\':
+            if text[at + 1:at + 2] not in ESCAPES or at + 1 == len(text):
+                raise self.bad('after a backslash in quotes stands n, r, t, {, a quote or a backslash')
+            word.add(ESCAPES[text[at + 1]])
+            return inside, at + 1
+        if text[at] == '{':
+            found = re.compile(r'\{(%s)\}' % NAME.pattern).match(text, at)
+            if not found:
+                raise self.bad('a brace begins the name of a record, as {raid}; for a brace itself write "\\{"')
+            word.parts.append([found.group(1)])
+            return inside, found.end() - 1
+        word.add(text[at])
+        return inside, at
+
+    def more(self):
+        return self.at < len(self.words)
+
+    def peek(self):
+        return self.words[self.at].plain() if self.more() else None
+
+    def take(self, what):
+        if not self.more():
+            raise self.bad('here the line ends, and %s is lacking' % what)
+        self.at += 1
+        return self.words[self.at - 1]
+
+    def take_plain(self, what, form):
+        word = self.take(what).plain()
+        if word is None or not form.fullmatch(word):
+            raise self.bad('%s is expected, and not %s' % (what, self.shown(self.at - 1)))
+        return word
+
+    def shown(self, at):
+        word = self.words[at]
+        return word.plain() or '"%s"' % ''.join(part if isinstance(part, str) else '{%s}' % part[0] for part in word.parts)
+
+
+class Look:
+    """Something that is expected of a reply: `kind` is a word of OF_TEXTS or OF_LABELS, or `only`."""
+
+    def __init__(self, line, kind):
+        self.place, self.source, self.kind = line.place, line.source, kind
+        self.texts, self.labels = [], []
+
+
+class Step:
+    """A request (`as`), or one for the location of the last reply (`follow`), or an `upgrade`."""
+
+    def __init__(self, line, kind):
+        self.place, self.source, self.kind = line.place, line.source, kind
+        self.gives, self.who, self.method, self.target, self.fields = [], None, 'GET', None, []
+        self.status = self.location = self.file = None
+        self.looks = []
+
+
+class Reader:
+    def __init__(self, sessions):
+        self.known, self.steps, self.open = set(sessions), [], []
+
+    def file(self, path, place=None):
+        if len(self.open) == MOST_INCLUDES or os.path.abspath(path) in self.open:
+            raise Malformed(place, 'these files include each other without end')
+        try:
+            with open(path, encoding='utf-8', newline='\n') as file:
+                texts = file.read().split('\n')
+        except (OSError, UnicodeDecodeError) as error:
+            raise Malformed(place or (path, 1), 'the walk %s cannot be read: %s' % (path, error)) from None
+        self.open.append(os.path.abspath(path))
+        first = len(self.steps)
+        for line in lines(path, texts):
+            self.line(line, first)
+        self.open.pop()
+
+    def line(self, line, first):
+        word = line.peek()
+        gives = self.gives(line)
+        if word in OF_TEXTS + OF_LABELS and not gives:
+            line.take(word)
+            if len(self.steps) == first or self.steps[-1].kind == 'upgrade':
+                raise line.bad('%s says what is expected of a reply, and no request stands before it' % word)
+            self.steps[-1].looks.append(self.look(line, word))
+        elif line.peek() == 'as':
+            self.request(line, gives)
+        elif word == 'follow':
+            self.follow(line)
+        elif word in ('include', 'upgrade'):
+            self.of_file(line, word)
+        else:
+            raise line.bad(unknown(line))
+        if line.more():
+            raise line.bad('the line should end before ' + line.shown(line.at))
+
+    @staticmethod
+    def gives(line):
+        """The names before `=`, each of which is for a record that the request makes."""
+        plain = [word.plain() for word in line.words]
+        if '=' not in plain:
+            return []
+        text = ' '.join(word or '?' for word in plain[:plain.index('=')])
+        names = [name.strip() for name in text.split(',')]
+        for name in names:
+            if not NAME.fullmatch(name) and name != '_':
+                raise line.bad('before = stand names of records, with commas between them: %s is none' % (name or 'nothing'))
+        line.at = plain.index('=') + 1
+        if line.peek() != 'as':
+            raise line.bad('after = stands a request, which begins with as')
+        return names
+
+    def request(self, line, gives):
+        step = Step(line, 'as')
+        line.take('as')
+        step.who = line.take_plain('who asks, a name or nobody', NAME)
+        if step.who != 'nobody':
+            self.need(line, step.who)
+        step.method = line.take_plain('a method in capital letters, as GET', METHOD)
+        step.target = line.take('the path')
+        if not step.target.parts or not str(step.target.parts[0]).startswith('/'):
+            raise line.bad('a path begins with /, and not as %s does' % line.shown(line.at - 1))
+        self.need(line, *step.target.names())
+        while line.more() and line.peek() != '->':
+            step.fields.append(self.field(line))
+        for name in gives:
+            if name == 'nobody':
+                raise line.bad('nobody is no name for a record')
+            if name != '_' and gives.count(name) > 1:
+                raise line.bad('%s is named twice' % name)
+        step.gives = gives
+        self.known.update(name for name in gives if name != '_')
+        self.wanted(line, step)
+
+    def field(self, line):
+        pair = line.take('a field').split('=')
+        if pair is None or not FIELD.fullmatch(pair[0]):
+            raise line.bad('a field is NAME=VALUE, without spaces that are not in quotes; %s is none'
+                           % line.shown(line.at - 1))
+        self.need(line, *pair[1].names())
+        return pair
+
+    def follow(self, line):
+        step = Step(line, 'follow')
+        line.take('follow')
+        if not self.steps or self.steps[-1].kind == 'upgrade':
+            raise line.bad('no request stands before this, whose location could be asked for')
+        self.wanted(line, step)
+
+    def wanted(self, line, step):
+        """What may stand at the end of a step: `-> STATUS` and a location."""
+        self.steps.append(step)
+        if not line.more():
+            return
+        if line.take('->').plain() != '->':
+            raise line.bad('-> and a status are expected, and not %s' % line.shown(line.at - 1))
+        step.status = int(line.take_plain('a status of three digits', re.compile('[1-5][0-9][0-9]')))
+        if line.more():
+            step.location = line.take('a location')
+            self.need(line, *step.location.names())
+
+    def of_file(self, line, word):
+        line.take(word)
+        path = os.path.join(os.path.dirname(line.place[0]), line.take('a file').text({}))
+        if word == 'include':
+            self.file(path, line.place)
+        else:
+            step = Step(line, 'upgrade')
+            step.file = path
+            self.steps.append(step)
+
+    def look(self, line, word):
+        look = Look(line, word)
+        if word in OF_TEXTS:
+            while line.more():
+                look.texts.append(line.take('a text'))
+                self.need(line, *look.texts[-1].names())
+                if not look.texts[-1].quoted:
+                    raise line.bad('a text stands in quotes, and %s has none' % line.shown(line.at - 1))
+            if not look.texts or word == 'is' and len(look.texts) > 1:
+                raise line.bad('after %s stands %s in quotes' % (word, 'one text' if word == 'is' else 'a text'))
+            return look
+        if word == 'shows' and line.peek() == 'only':
+            line.take('only')
+            look.kind = 'only'
+        if word == 'shows' and line.peek() == 'nothing':
+            line.take('nothing')
+            look.kind = 'only'
+            return look
+        while line.more():
+            look.labels.append(self.label(line))
+        if not look.labels:
+            raise line.bad('after %s stands a record and a field, as raid.title' % word)
+        return look
+
+    def label(self, line):
+        """A record's name and a guarded field of it, or nothing for the record itself, which a group hides."""
+        word = line.take('a record').plain() or ''
+        record, dot, field = word.partition('.')
+        if not NAME.fullmatch(record) or dot and not NAME.fullmatch(field):
+            raise line.bad('a label is written as raid.title, by a record and a guarded field of it, or as raid where a '
+                           'group hides the record; %s is neither' % line.shown(line.at - 1))
+        self.need(line, record)
+        return record, field
+
+    def need(self, line, *names):
+        for name in names:
+            if name not in self.known:
+                raise line.bad('nothing is called %s%s' % (name, meant(name, sorted(self.known))))
+
+
+def lines(path, texts):
+    """The lines that have words; one that ends with a backslash goes on with the next one."""
+    text, start = '', None
+    for number, piece in enumerate(texts, 1):
+        start = start or number
+        line = Line((path, start), text + ' ' + piece.rstrip('\r'))
+        if line.ends:
+            if line.words:
+                yield line
+            text, start = '', None
+        else:
+            text = (text + ' ' + piece.rstrip('\r')).rstrip()[:-1]
+    if start:
+        raise Malformed((path, start), 'the last line ends with a backslash, and nothing follows')
+
+
+def meant(word, known):
+    near = difflib.get_close_matches(word, known, 1)
+    return ': is %s meant?' % near[0] if near else ''
+
+
+def unknown(line):
+    word = line.peek()
+    if word and METHOD.fullmatch(word):
+        return 'a request begins with who asks: as nobody %s ..' % word
+    return 'the line begins with %s, where as, a name and =, has, lacks, is, shows, hides, follow, include or upgrade may ' \
+        'stand%s' % (line.shown(0), meant(word or '', BEGINNINGS))
+
+
+def read(path, sessions):
+    """The steps of a file, in which the names of the sessions are known."""
+    reader = Reader(sessions)
+    reader.file(path)
+    return reader.steps
