@@ -61,6 +61,7 @@ put_finger() {
     python3 "$top/tools/finger.py" "$program" "$@" || true
 }
 
+[ "${1-} ${2-}" != 'walk --help' ] || exec python3 "$top/tools/walk.py" --help
 choose
 choose_command "$@"
 case ${1-} in

@@ -6,9 +6,9 @@
       has "busy"
       lacks "Interview"
 
-Each walk begins with no records, and its requests are answered by `jac replay` over a store of its own. Without WALK the
-walks are the files `walk` and `*.walk` beside the application, or NAME.walk beside NAME.app. Where a file `sessions`
-stands beside it, its tokens are names of who asks.
+Each walk begins with no records, and its requests are answered by `jac replay` over a store of its own. Without WALK
+the walks are the files `walk` and `*.walk` beside the application, or NAME.walk beside NAME.app. The tokens of a file
+`sessions` beside it are names of who asks.
 
 The exit status is 0 where all is as expected, 1 where something is not, and 2 where a walk has no form, names what the
 application does not have, or cannot be run. docs/USING.md, "Walks", has the grammar."""
@@ -25,6 +25,7 @@ import urllib.parse
 
 sys.dont_write_bytecode = True
 sys.path.insert(0, os.path.dirname(os.path.abspath(__file__)))
+import assemble                                                             # noqa: E402
 import audit                                                                # noqa: E402
 import finger                                                               # noqa: E402
 import walk_file                                                            # noqa: E402
@@ -32,6 +33,8 @@ import walk_page                                                            # no
 from walk_file import Malformed                                             # noqa: E402
 
 TOP = os.path.dirname(os.path.dirname(os.path.abspath(__file__)))
+# a store of a walk outlives nothing, so it is in memory where that can be
+ROOM = '/dev/shm' if os.access('/dev/shm', os.W_OK) else None
 REPLY = re.compile(rb'reply (\d+) "((?:[^"\\]|\\.)*)" "((?:[^"\\]|\\.)*)"\n')
 ESCAPED = re.compile(rb'\\(n|r|\\|"|x([0-9a-fA-F]{2}))')
 PLAIN = {b'n': b'\n', b'r': b'\r', b'\\': b'\\', b'"': b'"'}
@@ -44,12 +47,14 @@ class Stopped(Exception):
 
 
 class Application:
-    """An application's file, and what its parts are called."""
+    """An application, and what its parts are called. One that is a folder is put together in a file of `room`."""
 
-    def __init__(self, path, shown=None):
-        self.path, self.shown = path, shown or path
-        with open(path, 'rb') as file:
-            data = file.read()
+    def __init__(self, path, room):
+        data, self.path = assemble.read(path), path
+        if os.path.isdir(path):
+            self.path = os.path.join(room, 'application%d' % len(os.listdir(room)))
+            with open(self.path, 'wb') as file:
+                file.write(data)
         self.names = audit.Names(data)
         self.models, self.groups = self.names.models, self.names.groups
         checker = finger.Checker(finger.read_tree(data, list(range(len(data) + 1))))
@@ -96,7 +101,7 @@ class Store:
     """The records of one walk, in a file of a folder of its own."""
 
     def __init__(self, program, folder):
-        self.program, self.folder = program, folder
+        self.program, self.folder, self.asked = program, folder, []
         self.file = os.path.join(folder, 'store')
 
     def path(self, name):
@@ -111,11 +116,13 @@ class Store:
         return done.stdout
 
     def ask(self, application, viewer, method, target, body):
+        self.asked.append('ask %s %s "%s" "%s"\n' % (viewer, method, quoted(target), quoted(body)))
         with open(self.path('events'), 'w', encoding='utf-8', newline='\n') as file:
-            file.write('ask %s %s "%s" "%s"\n' % (viewer, method, quoted(target), quoted(body)))
+            file.write(self.asked[-1])
         with contextlib.suppress(FileNotFoundError):
             os.remove(self.path('audit'))
-        out = self.run(['replay', application.path, self.path('events'), '--db', self.file, '--audit', self.path('audit')])
+        out = self.run(['replay', application.path, self.path('events'), '--db', self.file,
+                        '--audit', self.path('audit')])
         found = REPLY.fullmatch(out)
         if not found:
             raise Stopped('this is no reply: %r' % out[:200])
@@ -161,8 +168,8 @@ class Walk:
         for step in steps:
             lacking = [name for name in self.names(step) if name not in self.ids and self.sessions.get(name) != '-']
             if lacking:
-                self.fail(step.place, step.source, ['no record is called %s, since the request that should have made it made '
-                                                    'none; the walk ends here' % lacking[0]])
+                self.fail(step.place, step.source, ['no record is called %s, since the request that should have made '
+                                                    'it made none; the walk ends here' % lacking[0]])
                 return
             self.steps += 1
             if step.kind == 'upgrade':
@@ -223,10 +230,10 @@ class Walk:
 
     def upgrade(self, step):
         try:
-            new = Application(step.file)
-        except OSError as error:
+            new = Application(step.file, self.store.folder)
+            self.store.upgrade(self.application, new)
+        except (OSError, Stopped, finger.TreeFault) as error:
             raise Malformed(step.place, str(error)) from None
-        self.store.upgrade(self.application, new)
         self.application = new
 
     def judge(self, step):
@@ -256,21 +263,21 @@ class Walk:
 
     def of_labels(self, look):
         """What is wrong with the labels of the page, in words; nothing where it is as expected."""
-        wanted = {}
+        wanted = []
         for record, field in look.labels:
             number = self.application.label(self.ids[record], field)
             if isinstance(number, str):
                 raise Malformed(look.place, number)
-            wanted[number] = '%s.%s' % (record, field) if field else record
+            wanted.append((number, '%s.%s' % (record, field) if field else record))
         shown = set(self.reply.labels)
         if look.kind == 'hides':
-            wrong = ['- ' + name + ' is hidden' for number, name in wanted.items() if number in shown]
+            wrong = ['- ' + name + ' is hidden' for number, name in wanted if number in shown]
         else:
-            wrong = ['- ' + name for number, name in wanted.items() if number not in shown]
+            wrong = ['- ' + name for number, name in wanted if number not in shown]
         if look.kind == 'only':
-            wrong += ['+ ' + self.told(number) for number in sorted(shown - set(wanted))]
-        return wrong + ['what is shown: ' + (', '.join(self.told(number) for number in sorted(shown)) or 'nothing that is '
-                                             'guarded')] if wrong else None
+            wrong += ['+ ' + self.told(number) for number in sorted(shown - {number for number, _ in wanted})]
+        told = ', '.join(self.told(number) for number in sorted(shown))
+        return wrong + ['what is shown: ' + (told or 'nothing that is guarded')] if wrong else None
 
     def told(self, label):
         """A label by the names that the walk gave, or else as the audit in words has it."""
@@ -306,15 +313,6 @@ def walks_of(application):
         sorted(glob.glob(os.path.join(glob.escape(beside(application, '')), '*.walk')))
 
 
-@contextlib.contextmanager
-def read_application(path):
-    """An application's file; where it is a folder, what that is put together to."""
-    if not os.path.isdir(path):
-        yield path
-        return
-    raise Malformed((path, 1), 'a folder cannot be put together here')
-
-
 def tell(walk, step):
     """What `--verbose` says of a step: its reply, what was made and which labels are shown."""
     named = ', '.join('%s = %s' % (name, walk.ids.get(name)) for name in step.gives if name != '_')
@@ -325,67 +323,86 @@ def tell(walk, step):
         print('    | ' + line)
 
 
-def walked(program, path, application, sessions, verbose):
-    """Whether one walk went as expected; says what was not."""
-    steps = walk_file.read(path, sessions)
-    with tempfile.TemporaryDirectory() as folder:
-        walk = Walk(application, sessions, Store(program, folder))
+def walked(program, application, steps, sessions, given):
+    """What was not as expected on one walk, and how many steps it went."""
+    with tempfile.TemporaryDirectory(dir=ROOM) as folder:
+        store = Store(program, folder)
+        walk = Walk(application, sessions, store)
         try:
-            walk.go(steps, tell if verbose else None)
+            walk.go(steps, tell if given.verbose else None)
         finally:
             for failure in walk.failures:
                 print(failure)
-    looks = sum(len(step.looks) for step in steps)
-    print('%s: %d steps, %d expectations after them, %s' % (
-        path, walk.steps, looks, '%d not met' % len(walk.failures) if walk.failures else 'all met'))
-    return not walk.failures
+    if given.events:
+        with open(given.events, 'w', encoding='utf-8', newline='\n') as file:
+            file.writelines(store.asked)
+    return walk
+
+
+def walk_all(program, application, walks, sessions, given):
+    """Whether all walks went as expected."""
+    failed = 0
+    for path in walks:
+        steps = walk_file.read(path, sessions)
+        walk = walked(program, application, steps, sessions, given)
+        looks = sum(len(step.looks) for step in steps)
+        met = '%d not met' % len(walk.failures) if walk.failures else 'all met'
+        print('%s: %d steps, %d expectations after them, %s' % (path, walk.steps, looks, met))
+        failed += bool(walk.failures)
+    return not failed
 
 
 def refusal(program, path):
     """What the program says against an application, with the finger on the place; nothing where it is well."""
-    done = subprocess.run([*program, 'check', path], stdin=subprocess.DEVNULL, stdout=subprocess.PIPE,
+    tools = os.path.join(TOP, 'tools', '')
+    is_script = program == [os.path.join(TOP, 'jac')]
+    start = [sys.executable, tools + 'run_folder.py'] if os.path.isdir(path) and not is_script else []
+    done = subprocess.run([*start, *program, 'check', path], stdin=subprocess.DEVNULL, stdout=subprocess.PIPE,
                           stderr=subprocess.STDOUT, check=False)
     if not done.returncode:
         return None
-    said = done.stdout.decode(errors='replace')
-    if program != [os.path.join(TOP, 'jac')]:
-        told = subprocess.run([sys.executable, os.path.join(TOP, 'tools', 'finger.py'), *program, 'check', path],
-                              stdout=subprocess.PIPE, stderr=subprocess.STDOUT, check=False)
-        said += told.stdout.decode(errors='replace')
-    return said
+    said = done.stdout
+    if not is_script:
+        said += subprocess.run([sys.executable, tools + 'finger.py', *program, 'check', path], stdin=subprocess.DEVNULL,
+                               stdout=subprocess.PIPE, stderr=subprocess.STDOUT, check=False).stdout
+    return said.decode(errors='replace')
 
 
 def parser():
-    words = argparse.ArgumentParser(prog='walk', description=__doc__, formatter_class=argparse.RawDescriptionHelpFormatter)
+    words = argparse.ArgumentParser(prog='walk', description=__doc__,
+                                    formatter_class=argparse.RawDescriptionHelpFormatter)
     words.add_argument('application', metavar='APP', help='the application: a file, or a folder that has its parts')
     words.add_argument('walks', metavar='WALK', nargs='*', help='the walks, or none for those beside the application')
     words.add_argument('--sessions', metavar='FILE', help='the sessions whose tokens are names of who asks')
     words.add_argument('--verbose', '-v', action='store_true', help='say what each request was answered')
+    words.add_argument('--events', metavar='FILE', help='write the requests of the last walk as events, for jac replay')
     words.add_argument('--program', metavar='PROGRAM', default=os.path.join(TOP, 'jac'),
                        help='the program that answers, or the script jac, which chooses it')
     return words
 
 
+def run(given):
+    sessions = given.sessions or beside(given.application, 'sessions')
+    known = sessions_of(sessions) if given.sessions or os.path.exists(sessions) else {}
+    walks = given.walks or walks_of(given.application)
+    if not walks:
+        raise Stopped('%s has no walk beside it: write one, docs/USING.md says how' % given.application)
+    said = refusal([given.program], given.application)
+    if said:
+        raise Stopped('%s is refused:\n%s' % (given.application, said))
+    with tempfile.TemporaryDirectory(dir=ROOM) as room:
+        return walk_all([given.program], Application(given.application, room), walks, known, given)
+
+
 def main():
     given = parser().parse_args()
-    program, failed = [given.program], 0
     try:
-        sessions = given.sessions or beside(given.application, 'sessions')
-        known = sessions_of(sessions) if given.sessions or os.path.exists(sessions) else {}
-        walks = given.walks or walks_of(given.application)
-        if not walks:
-            raise Stopped('%s has no walk beside it: write one, docs/USING.md says how' % given.application)
-        with read_application(given.application) as path:
-            said = refusal(program, path)
-            if said:
-                raise Stopped('%s is refused:\n%s' % (given.application, said))
-            application = Application(path, given.application)
-            for walk in walks:
-                failed += not walked(program, walk, application, known, given.verbose)
-    except (Malformed, Stopped, OSError) as fault:
-        print('walk: %s' % fault if not isinstance(fault, Malformed) else fault)
-        return 2
-    return 1 if failed else 0
+        return 0 if run(given) else 1
+    except Malformed as fault:
+        print(fault)
+    except (Stopped, assemble.Fault, OSError) as fault:
+        print('walk: %s' % fault)
+    return 2
 
 
 if __name__ == '__main__':

@@ -87,14 +87,14 @@ class Line:
             raise self.bad('a text in quotes has no end on this line; \\n in it is a line feed')
 
     def put(self, word, text, at, inside):
-        """Adds what stands at this place to the word: whether a text in quotes is open then, and the place of its end."""
+        """Adds what is at this place to the word: whether a text in quotes is open then, and the place of its end."""
         if text[at] == '"':
             word.quoted = True
             word.add('')
             return not inside, at
         if inside and text[at] == '\\':
             if text[at + 1:at + 2] not in ESCAPES or at + 1 == len(text):
-                raise self.bad('after a backslash in quotes stands n, r, t, {, a quote or a backslash')
+                raise self.bad('n, r, t, {, a quote or a backslash is expected after a backslash in quotes')
             word.add(ESCAPES[text[at + 1]])
             return inside, at + 1
         if text[at] == '{':
@@ -126,7 +126,8 @@ class Line:
 
     def shown(self, at):
         word = self.words[at]
-        return word.plain() or '"%s"' % ''.join(part if isinstance(part, str) else '{%s}' % part[0] for part in word.parts)
+        return word.plain() or '"%s"' % ''.join(
+            part if isinstance(part, str) else '{%s}' % part[0] for part in word.parts)
 
 
 class Look:
@@ -171,7 +172,7 @@ class Reader:
         if word in OF_TEXTS + OF_LABELS and not gives:
             line.take(word)
             if len(self.steps) == first or self.steps[-1].kind == 'upgrade':
-                raise line.bad('%s says what is expected of a reply, and no request stands before it' % word)
+                raise line.bad('%s says what is expected of a reply, and there is no request before it' % word)
             self.steps[-1].looks.append(self.look(line, word))
         elif line.peek() == 'as':
             self.request(line, gives)
@@ -194,10 +195,11 @@ class Reader:
         names = [name.strip() for name in text.split(',')]
         for name in names:
             if not NAME.fullmatch(name) and name != '_':
-                raise line.bad('before = stand names of records, with commas between them: %s is none' % (name or 'nothing'))
+                raise line.bad('names of records, with commas between them, are expected before =, and not %s'
+                               % (name or 'nothing'))
         line.at = plain.index('=') + 1
         if line.peek() != 'as':
-            raise line.bad('after = stands a request, which begins with as')
+            raise line.bad('a request, which begins with as, is expected after =')
         return names
 
     def request(self, line, gives):
@@ -234,7 +236,7 @@ class Reader:
         step = Step(line, 'follow')
         line.take('follow')
         if not self.steps or self.steps[-1].kind == 'upgrade':
-            raise line.bad('no request stands before this, whose location could be asked for')
+            raise line.bad('there is no request before this one whose location could be asked for')
         self.wanted(line, step)
 
     def wanted(self, line, step):
@@ -266,9 +268,9 @@ class Reader:
                 look.texts.append(line.take('a text'))
                 self.need(line, *look.texts[-1].names())
                 if not look.texts[-1].quoted:
-                    raise line.bad('a text stands in quotes, and %s has none' % line.shown(line.at - 1))
+                    raise line.bad('a text in quotes is expected, and not %s' % line.shown(line.at - 1))
             if not look.texts or word == 'is' and len(look.texts) > 1:
-                raise line.bad('after %s stands %s in quotes' % (word, 'one text' if word == 'is' else 'a text'))
+                raise line.bad('%s in quotes is expected after %s' % ('one text' if word == 'is' else 'a text', word))
             return look
         if word == 'shows' and line.peek() == 'only':
             line.take('only')
@@ -280,7 +282,7 @@ class Reader:
         while line.more():
             look.labels.append(self.label(line))
         if not look.labels:
-            raise line.bad('after %s stands a record and a field, as raid.title' % word)
+            raise line.bad('a record and a field, as raid.title, are expected after %s' % word)
         return look
 
     def label(self, line):
@@ -288,8 +290,8 @@ class Reader:
         word = line.take('a record').plain() or ''
         record, dot, field = word.partition('.')
         if not NAME.fullmatch(record) or dot and not NAME.fullmatch(field):
-            raise line.bad('a label is written as raid.title, by a record and a guarded field of it, or as raid where a '
-                           'group hides the record; %s is neither' % line.shown(line.at - 1))
+            raise line.bad('a label is a record and a guarded field of it, as raid.title, or the record, as raid, '
+                           'where a group hides it; %s is neither' % line.shown(line.at - 1))
         self.need(line, record)
         return record, field
 
@@ -324,8 +326,8 @@ def unknown(line):
     word = line.peek()
     if word and METHOD.fullmatch(word):
         return 'a request begins with who asks: as nobody %s ..' % word
-    return 'the line begins with %s, where as, a name and =, has, lacks, is, shows, hides, follow, include or upgrade may ' \
-        'stand%s' % (line.shown(0), meant(word or '', BEGINNINGS))
+    return 'a line begins with as, with names and =, with has, lacks, is, shows, hides, follow, include or upgrade, ' \
+        'and not with %s%s' % (line.shown(0), meant(word or '', BEGINNINGS))
 
 
 def read(path, sessions):

@@ -4,10 +4,10 @@ import html
 import html.parser
 
 # tags that a browser draws within a line; every other one begins and ends a line
-WITHIN = frozenset('a abbr b bdi bdo big cite code data del dfn em font i ins kbd label mark q s samp small span strike '
-                   'strong sub sup time tt u var'.split())
+WITHIN = frozenset('a abbr b bdi bdo big cite code data del dfn em font i ins kbd label mark q s samp small span '
+                   'strike strong sub sup time tt u var'.split())
 UNSEEN = frozenset(('style', 'script'))
-# cells of a row stand side by side, as do the choices of a list
+# cells of a row are side by side, as are the choices of a list
 BESIDE = frozenset('td th option input button select textarea'.split())
 MOST_LINES = 30
 
