@@ -1,0 +1,161 @@
+#!/usr/bin/env python3
+"""Makes a new application (tools/new.py) in a temporary folder, and does what its README.md says: checks it, walks it,
+serves it and looks at it twice. Word: the program, or the script jac. Prints each case that fails, and ends with a count.
+
+Served, it is used by two people and a stranger. Its walk has to fail once the policy lets everybody read, and once a
+view that writes asks nobody. Without Jinja2 all but the first two cases are skipped."""
+import os
+import re
+import subprocess
+import sys
+import tempfile
+import urllib.error
+import urllib.parse
+import urllib.request
+
+sys.dont_write_bytecode = True
+import proved                                                               # noqa: E402
+import serving                                                              # noqa: E402
+from pages import TOP                                                       # noqa: E402
+
+PROGRAM = proved.program(sys.argv[1])
+TOOLS = os.path.join(TOP, 'tools')
+PYTHON = [sys.executable]
+START = [PROGRAM] if proved.is_script(PROGRAM) else [*PYTHON, os.path.join(TOOLS, 'run_folder.py'), PROGRAM]
+WALK = [*PYTHON, os.path.join(TOOLS, 'walk.py'), '--program', PROGRAM]
+# a change of main, and a line of the walk that then has to be reported
+TURNED = [
+    ('(policy (or (get Note shared this) (and (live viewer) (eq (get Note owner this) viewer))))', '(policy true)',
+     'lacks "Plan" "boat" "Let everybody read it"'),
+    ('(if [[ is_owner("id") ]]\n   ((update', '(if (live id)\n   ((update', 'as bob POST /note/{plan}/share shared=1 -> 404'),
+    ('(if [[ is_owner("id") ]]\n   ((delete', '(if (live id)\n   ((delete', 'as nobody POST /note/{plan}/remove -> 404'),
+    ('"/notes" (params (title text) (words text) (shared bool))\n  (if (live viewer)',
+     '"/notes" (params (title text) (words text) (shared bool))\n  (if true', 'as nobody POST /notes title=Spam -> 404'),
+]
+
+
+def run(words, folder=TOP):
+    done = subprocess.run(words, cwd=folder, stdin=subprocess.DEVNULL, stdout=subprocess.PIPE, stderr=subprocess.STDOUT,
+                          timeout=300, check=False)
+    return done.returncode, done.stdout.decode(errors='replace')
+
+
+def make(folder):
+    return run([*PYTHON, os.path.join(TOOLS, 'new.py'), folder])
+
+
+def has_jinja():
+    return run([*PYTHON, '-c', 'import sys; sys.path.insert(0, "tools"); import assemble; assemble.jinja("")'])[0] == 0
+
+
+def of_making(folder):
+    """What is wrong where a folder is made, and where it is there already."""
+    status, out = make(folder)
+    right = status == 0 and os.path.isfile(os.path.join(folder, 'main')) and 'README.md says what to type' in out
+    yield None if right else 'new: %d, %s' % (status, out)
+    before = sorted(os.listdir(folder))
+    status, out = make(folder)
+    right = status == 2 and 'nothing was written' in out and sorted(os.listdir(folder)) == before
+    yield None if right else 'new over a folder that is there: %d, %s' % (status, out)
+
+
+def commands(folder):
+    """What README.md says to type, with the program that is checked."""
+    with open(os.path.join(folder, 'README.md'), encoding='utf-8') as file:
+        text = file.read()
+    for line in re.findall(r'(?m)^\| to .*\| `([^`]*)` \|$', text):
+        words = line.split()
+        if os.path.basename(words[0]) == 'jac':
+            yield words[1], (WALK if words[1] == 'walk' else [*START, words[1]]) + words[2:]
+        else:
+            yield os.path.basename(words[1]), [*PYTHON, *words[1:]]
+
+
+def of_readme(folder):
+    """What is wrong with the commands of README.md that end by themselves."""
+    found = dict(commands(folder))
+    yield None if set(found) == {'check', 'walk', 'serve', 'look.py'} else 'README.md has the commands %s' % list(found)
+    for name, said in (('check', 'ok 2 models'), ('walk', 'all met'), ('look.py', 'nothing to look at')):
+        status, out = run(found[name], folder)
+        yield None if status == 0 and said in out else '%s: %d, %s' % (name, status, out)
+
+
+class Kept(urllib.request.HTTPRedirectHandler):
+    """Leaves a redirect as it is."""
+
+    def redirect_request(self, *_):
+        return None
+
+
+def asked(port, path, who, form=None):
+    """The status, the location and the page."""
+    body = urllib.parse.urlencode(form).encode() if form is not None else None
+    request = urllib.request.Request('http://127.0.0.1:%d%s' % (port, path), body)
+    request.add_header('Connection', 'close')
+    if who:
+        request.add_header('Cookie', 'session=' + who)
+    try:
+        with urllib.request.build_opener(Kept).open(request, timeout=20) as reply:
+            return reply.status, reply.headers.get('Location'), reply.read().decode()
+    except urllib.error.HTTPError as reply:
+        return reply.code, reply.headers.get('Location'), reply.read().decode()
+
+
+def of_serving(folder):
+    """What is wrong with the application as README.md has it served: a note that Ann writes is read by her alone."""
+    words = dict(commands(folder))['serve']
+    port = serving.free_port()
+    words[words.index('8080')] = str(port)
+    with subprocess.Popen(words, cwd=folder, stdin=subprocess.DEVNULL, stdout=subprocess.DEVNULL,
+                          stderr=subprocess.PIPE) as service:
+        try:
+            for line in service.stderr:
+                if b'listening on' in line:
+                    break
+            first = asked(port, '/', None)
+            asked(port, '/setup', None, {})
+            status, note, _ = asked(port, '/notes', 'ann', {'title': 'Plan <1>', 'words': 'Buy the boat.'})
+            yield None if first[0] == 200 and 'Add Ann and Bob' in first[2] else 'the first page: %s' % (first,)
+            yield None if status == 303 and note else 'a note: %s, %s' % (status, note)
+            for who, there in (('ann', True), ('bob', False), (None, False), ('guessed', False)):
+                status, _, page = asked(port, note or '/', who)
+                right = status == 200 and ('Buy the boat.' in page) == ('Plan &lt;1&gt;' in page) == there
+                yield None if right else 'the note for %s: %s, %s' % (who, status, page)
+        finally:
+            service.kill()
+
+
+def of_turned(folder):
+    """What the walk doesn't notice of a change of the application."""
+    path = os.path.join(folder, 'main')
+    with open(path, encoding='utf-8') as file:
+        text = file.read()
+    for old, new, line in TURNED:
+        with open(path, 'w', encoding='utf-8') as file:
+            file.write(text.replace(old, new))
+        status, out = run([*WALK, '.'], folder)
+        right = text.count(old) == 1 and status == 1 and line in out
+        yield None if right else 'turned to %s: %d times, %d, want %s, have %s' % (new, text.count(old), status, line, out)
+    with open(path, 'w', encoding='utf-8') as file:
+        file.write(text)
+
+
+def main():
+    skipped = 0
+    with tempfile.TemporaryDirectory() as room:
+        folder = os.path.join(room, 'our-notes')
+        results = [*of_making(folder)]
+        if has_jinja():
+            results += [*of_readme(folder), *of_turned(folder), *of_serving(folder)]
+        else:
+            skipped = 1
+            print('SKIPPED what needs Jinja2, which is not installed (python3-jinja2)')
+    for wrong in filter(None, results):
+        print('FAILED ' + wrong)
+    failed = sum(1 for wrong in results if wrong)
+    print('%d passed, %d failed%s' % (len(results) - failed, failed, ', %d skipped' % skipped if skipped else ''))
+    return 1 if failed else 0
+
+
+if __name__ == '__main__':
+    sys.exit(main())
