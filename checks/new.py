@@ -1,6 +1,7 @@
 #!/usr/bin/env python3
 """Makes a new application (tools/new.py) in a temporary folder, and does what its README.md says: checks it, walks it,
-serves it and looks at it twice. Word: the program, or the script jac. Prints each case that fails, and ends with a count.
+serves it and looks at it twice. Word: the program, or the script jac. Prints each case that fails, and ends with a
+count.
 
 Served, it is used by two people and a stranger. Its walk has to fail once the policy lets everybody read, and once a
 view that writes asks nobody. Without Jinja2 all but the first two cases are skipped."""
@@ -27,10 +28,13 @@ WALK = [*PYTHON, os.path.join(TOOLS, 'walk.py'), '--program', PROGRAM]
 TURNED = [
     ('(policy (or (get Note shared this) (and (live viewer) (eq (get Note owner this) viewer))))', '(policy true)',
      'lacks "Plan" "boat" "Let everybody read it"'),
-    ('(if [[ is_owner("id") ]]\n   ((update', '(if (live id)\n   ((update', 'as bob POST /note/{plan}/share shared=1 -> 404'),
-    ('(if [[ is_owner("id") ]]\n   ((delete', '(if (live id)\n   ((delete', 'as nobody POST /note/{plan}/remove -> 404'),
+    ('(if [[ is_owner("id") ]]\n   ((update', '(if (live id)\n   ((update',
+     'as bob POST /note/{plan}/share shared=1 -> 404'),
+    ('(if [[ is_owner("id") ]]\n   ((delete', '(if (live id)\n   ((delete',
+     'as nobody POST /note/{plan}/remove -> 404'),
     ('"/notes" (params (title text) (words text) (shared bool))\n  (if (live viewer)',
-     '"/notes" (params (title text) (words text) (shared bool))\n  (if true', 'as nobody POST /notes title=Spam -> 404'),
+     '"/notes" (params (title text) (words text) (shared bool))\n  (if true',
+     'as nobody POST /notes title=Spam -> 404'),
 ]
 
 
@@ -134,8 +138,9 @@ def of_turned(folder):
         with open(path, 'w', encoding='utf-8') as file:
             file.write(text.replace(old, new))
         status, out = run([*WALK, '.'], folder)
-        right = text.count(old) == 1 and status == 1 and line in out
-        yield None if right else 'turned to %s: %d times, %d, want %s, have %s' % (new, text.count(old), status, line, out)
+        places = text.count(old)
+        right = places == 1 and status == 1 and line in out
+        yield None if right else 'turned to %s: %d times, %d, want %s, have %s' % (new, places, status, line, out)
     with open(path, 'w', encoding='utf-8') as file:
         file.write(text)
 
