@@ -286,17 +286,19 @@ def untold(application, path):
 
 
 def of_pages():
-    """The walks that the tutorial sets apart, each over the application that it sets apart last before it."""
-    application, walks = None, 0
-    for block in APART.findall(read('docs/TUTORIAL.md')):
-        text = textwrap.dedent(block)
-        if text.startswith('(app'):
-            application = text
-        elif re.match(r'(#.*\n|\s)*([a-z_, ]+= )?as \w+ [A-Z]+ ', text):
-            status, out = over(text, application)
-            walks += 1
-            yield None if status == 0 else 'docs/TUTORIAL.md: %s: %s' % (text, out)
-    yield None if walks else 'docs/TUTORIAL.md: no walk'
+    """The walks that pages set apart: each over the application that the page sets apart last before it, or over the
+    calendar, of which docs/USING.md speaks."""
+    for page, application in (('docs/TUTORIAL.md', None), ('docs/USING.md', read('examples/calendar/app'))):
+        walks = 0
+        for block in APART.findall(read(page)):
+            text = textwrap.dedent(block)
+            if text.startswith('(app') and page == 'docs/TUTORIAL.md':
+                application = text
+            elif re.match(r'(#.*\n|\s)*([a-z_, ]+= )?as \w+ [A-Z]+ ', text):
+                status, out = over(text, application)
+                walks += 1
+                yield None if status == 0 else '%s: %s: %s' % (page, text, out)
+        yield None if walks else page + ': no walk'
 
 
 def main():

@@ -83,13 +83,14 @@ def wrong(body, kind, texts):
 
 
 def lacking(body, text):
-    """The page as it reads, with the text before the line that is nearest to it."""
+    """The page as it reads, with the text before the line that is nearest to it, or before the page."""
     page = lines(body)
     near = difflib.get_close_matches(text, page, 1, 0.3)
     at = page.index(near[0]) if near else 0
     start = max(0, at - MOST_LINES // 2)
-    marked = [('+ ' if near and number == at else '  ') + line for number, line in enumerate(page)]
-    return ['- ' + text] + (['  ..'] if start else []) + (shortened(marked[start:]) or ['+ the page is empty'])
+    before = ['  ' + line for line in page[start:at]]
+    after = [('+ ' if near and number == 0 else '  ') + line for number, line in enumerate(page[at:])]
+    return (['  ..'] if start else []) + before + ['- ' + text] + (shortened(after) or ['+ the page is empty'])
 
 
 def standing(body, text):
