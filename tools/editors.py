@@ -18,11 +18,12 @@ VIM = r'''" Vim syntax file. Language: applications of Jacqueline. %(note)s.
 if exists("b:current_syntax")
   finish
 endif
-syn case match
-syn sync fromstart
 silent! syn include @jacHtml syntax/html.vim
 unlet! b:current_syntax
 syn case match
+" HTML begins anew at each tag, and a text of an application doesn't
+syn sync clear
+syn sync fromstart
 
 " what may be in a view, a model or a tag
 syn cluster jacForms contains=jacDeclaration,jacMark,jacMethod,jacStatement,jacExpression,jacQuery,jacOrder
