@@ -4,9 +4,11 @@ serves it and looks at it twice. Word: the program, or the script jac. Prints ea
 count.
 
 Served, it is used by two people and a stranger. Its walk has to fail once the policy lets everybody read, and once a
-view that writes asks nobody. Without Jinja2 all but the first two cases are skipped."""
+view that writes asks nobody. The pages of the walk are read by tidy, where that is installed. Without Jinja2 all but
+the first two cases are skipped."""
 import os
 import re
+import shutil
 import subprocess
 import sys
 import tempfile
@@ -19,8 +21,11 @@ import proved                                                               # no
 import serving                                                              # noqa: E402
 from pages import TOP                                                       # noqa: E402
 
-PROGRAM = proved.program(sys.argv[1])
 TOOLS = os.path.join(TOP, 'tools')
+sys.path.insert(0, TOOLS)
+import walk                                                                 # noqa: E402
+
+PROGRAM = proved.program(sys.argv[1])
 PYTHON = [sys.executable]
 START = [PROGRAM] if proved.is_script(PROGRAM) else [*PYTHON, os.path.join(TOOLS, 'run_folder.py'), PROGRAM]
 WALK = [*PYTHON, os.path.join(TOOLS, 'walk.py'), '--program', PROGRAM]
@@ -145,6 +150,21 @@ def of_turned(folder):
         file.write(text)
 
 
+def of_markup(folder):
+    """What tidy says against the pages that the walk is answered with."""
+    events = os.path.join(folder, 'events')
+    run([*WALK, '.', '--events', events], folder)
+    done = subprocess.run([*START, 'replay', folder, events], stdin=subprocess.DEVNULL, stdout=subprocess.PIPE,
+                          stderr=subprocess.DEVNULL, check=False)
+    os.remove(events)
+    pages = [walk.plain(body) for status, _, body in walk.REPLY.findall(done.stdout) if status != b'303']
+    yield None if len(pages) > 10 else 'the walk is answered by %d pages' % len(pages)
+    for page in pages:
+        said = subprocess.run(['tidy', '-errors', '-quiet', '--drop-empty-elements', 'no'], input=page,
+                              stdout=subprocess.DEVNULL, stderr=subprocess.PIPE, check=False).stderr.decode()
+        yield '%s: %s' % (said, page.decode()) if said else None
+
+
 def main():
     skipped = 0
     with tempfile.TemporaryDirectory() as room:
@@ -152,6 +172,11 @@ def main():
         results = [*of_making(folder)]
         if has_jinja():
             results += [*of_readme(folder), *of_turned(folder), *of_serving(folder)]
+            if shutil.which('tidy'):
+                results += [*of_markup(folder)]
+            else:
+                skipped = 1
+                print('SKIPPED whether the pages are HTML, since tidy is not installed')
         else:
             skipped = 1
             print('SKIPPED what needs Jinja2, which is not installed (python3-jinja2)')
