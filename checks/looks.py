@@ -11,31 +11,79 @@ import sys
 import tempfile
 
 TOP = os.path.dirname(os.path.dirname(os.path.abspath(__file__)))
-SCRIPT = 'no page of this application leads here'
-BRANCH = 'its public value decides whether it was done'
+# Words that the message of each kind has, as patterns.
+WORDS = {
+    'write': 'asks who the viewer is', 'unasked': 'so anybody may decide who', 'branch': '(?:depends on a condition|finds its record by a value) that',
+    'nobody': 'none equals none', 'copy': 'nobody is shown the label of a record that is gone',
+    'sum': 'where it is hidden its public value counts', 'markup': 'each page is sent as HTML',
+    'escape': 'escaping does not protect this place', 'redirect': 'may lead to another site',
+    'unlinked': 'no page of this application leads here',
+}
 
-# the place, and words that stand there
+# Where each application is to be looked at: the line, the column, and the entry that accepts it, without its view or model.
 CASES = {
-    'a_form_saves_what_it_was_filled_with': [(9, 25, 'sets the guarded phone of Card')],
-    'a_copy_of_a_record_that_is_gone': [(11, 33, 'the guarded words of a Draft is stored here')],
-    'a_branch_stores_in_its_own_worlds': [(9, 11, 'reads the guarded title of Event, and a create hangs on it')],
-    'a_hidden_number_is_a_number': [(7, 33, 'makes a Score with this points'), (9, 41, 'points of Score is added up')],
+    'a_form_saves_what_it_was_filled_with': [
+        (4, 44, 'nobody (get Card owner this)'), (7, 55, 'markup Card.phone'), (9, 25, 'write Card.phone')],
+    'a_copy_of_a_record_that_is_gone': [
+        (5, 43, 'nobody (get Draft author this)'), (11, 33, 'copy Draft.words'), (12, 77, 'unasked Draft.published'),
+        (13, 73, 'markup Article.words'), (15, 60, 'markup Draft.words')],
+    'a_branch_stores_in_its_own_worlds': [
+        (4, 42, 'nobody (get Event host this)'), (9, 11, 'branch Event.title'), (11, 50, 'markup Note.words')],
+    'a_hidden_number_is_a_number': [
+        (4, 52, 'nobody (get Score of this)'), (7, 33, 'write Score.points'), (9, 41, 'sum Score.points')],
+}
+TRAPS = {
+    'checks/looks/share.app': [(18, 30, 'branch Paper')],
+    'checks/looks/fire.app': [(5, 40, 'unasked Person.hr'), (7, 7, 'branch Person'), (9, 7, 'branch Person')],
+    'examples/calendar.app': [(5, 38, 'nobody (get Event host this)'), (11, 41, 'markup Event.title')],
+    'checks/looks/clubs.app': [(10, 3, 'unasked Member'), (12, 3, 'unasked Member'), (14, 26, 'unasked Member.club')],
+    'checks/looks/login.app': [(3, 48, 'redirect to'), (4, 40, 'redirect Person.home'), (5, 59, 'redirect to'),
+                               (6, 54, 'redirect to')],
+    'checks/looks/profiles.app': [
+        (7, 14, 'escape name'), (7, 84, 'markup name'), (8, 13, 'escape Person.site'), (9, 29, 'escape note'),
+        (9, 44, 'escape note'), (11, 20, 'escape note'), (14, 20, 'markup note')],
+    'checks/looks/salaries.app': [(5, 7, 'branch Person.boss'), (9, 7, 'branch Person.boss'), (10, 13, 'branch Person.salary')],
+    'checks/looks/tasks.app': [(5, 67, 'nobody (get Task helper this)'), (12, 13, 'nobody (get Task of id)')],
+    'checks/looks/tickets.app': [(9, 7, 'branch Ticket')],
+    'checks/looks/visits.app': [(9, 29, 'branch Visit'), (14, 8, 'branch Visit')],
+    'checks/looks/wards.app': [(7, 37, 'unasked Person.nurse'), (11, 26, 'unasked Person.ward')],
 }
 EXAMPLES = {
-    'examples/calendar/app': [(796, 12, SCRIPT)],
-    'examples/conference/app': [(415, 17, BRANCH), (1004, 12, SCRIPT)],
-    'examples/courses/app': [(344, 80, BRANCH), (986, 12, SCRIPT)],
-    'examples/health/app': [(349, 30, BRANCH), (498, 34, BRANCH), (1070, 12, SCRIPT)],
-    'examples/agenda.app': [(22, 35, BRANCH)],
-    'examples/meetings.app': [(12, 13, SCRIPT), (15, 13, SCRIPT), (19, 13, SCRIPT), (20, 47, BRANCH)],
-    **{'examples/%s.app' % name: [] for name in ('calendar', 'courses', 'guestbook', 'guests', 'hello', 'invitations',
-                                                  'library', 'notes', 'people', 'records', 'shop')},
+    'examples/agenda.app': [
+        (7, 38, 'nobody (get Event host this)'), (19, 9, 'markup Event.title'), (22, 35, 'branch Event.title'),
+        (27, 40, 'markup Note.body'), (30, 7, 'nobody (get Event host event)'),
+        (35, 7, 'nobody (get Event host event)')],
+    'examples/courses.app': [
+        (14, 9, 'markup Student.name'), (14, 58, 'markup Course.title'), (18, 9, 'markup Course.title'),
+        (23, 8, 'markup Course.title'), (27, 19, 'markup Student.name'), (34, 9, 'markup Student.name'),
+        (36, 9, 'markup Course.title')],
+    'examples/guestbook.app': [],
+    'examples/guests.app': [(5, 29, 'markup name'), (8, 9, 'markup Guest.name')],
+    'examples/hello.app': [],
+    'examples/invitations.app': [
+        (28, 30, 'markup User.name'), (32, 30, 'branch Invite'), (33, 51, 'markup Invite.answer'),
+        (38, 9, 'markup Party.title'), (40, 20, 'markup User.name'), (40, 74, 'markup Invite.answer')],
+    'examples/library.app': [
+        (16, 9, 'markup Book.title'), (20, 9, 'markup Reader.name'), (26, 8, 'markup Book.title'),
+        (30, 9, 'markup Book.title'), (36, 9, 'markup Reader.name'), (36, 49, 'markup Book.title'),
+        (42, 9, 'markup Book.title')],
+    'examples/meetings.app': [
+        (12, 13, 'unlinked'), (15, 13, 'unlinked'), (19, 13, 'unlinked'), (20, 47, 'branch Event.host')],
+    'examples/notes.app': [],
+    'examples/people.app': [(10, 9, 'markup User.name'), (10, 46, 'markup User.town')],
+    'examples/records.app': [
+        (12, 37, 'unasked Person.doctor'), (20, 30, 'branch Record'), (27, 9, 'markup Record.day'),
+        (27, 44, 'markup Person.name'), (28, 9, 'markup Record.words'), (32, 10, 'markup Record.words')],
+    'examples/shop.app': [(13, 47, 'markup Item.name')],
 }
+# The larger ones have a file of what was accepted, and nothing else is to be looked at.
+LARGE = ('examples/calendar/app', 'examples/conference/app', 'examples/courses/app', 'examples/courses/next/app',
+         'examples/health/app')
 
 MODEL = '''(app (viewer User)
  (model User (fields (name text)))
  (model Card (fields (owner (ref User)) (phone text) (calls int) (known bool))
-  (group (guards (phone "hidden") (calls 0) (known false)) (policy (eq (get Card owner this) viewer))))
+  (group (guards (phone "hidden") (calls 0) (known false)) (policy (and (live viewer) (eq (get Card owner this) viewer)))))
  (model Paper (fields (words text)))
 %s)
 '''
@@ -49,25 +97,96 @@ VIEWS = {
  (view post "/move/{id}" (params (id (ref Card)))
   (let words (get Card phone id)
    (create p Paper (set (words words)))
-   (delete Card id)))''', [(7, 14, 'the guarded phone of a Card is stored here')]),
+   (delete Card id)))''', [(7, 14, 'copy Card.phone')]),
     'a sum of those that are known': ('''
  (view get "/calls" (params)
   (put (sum (from ((c Card)) (get Card known c) key) (get Card calls c))))''', []),
     'a sum that asks another record': ('''
  (view get "/calls" (params)
-  (put (sum (from ((c Card)) (live c) key) (get Card calls c))))''', [(7, 44, 'the guarded calls of Card is added up')]),
+  (put (sum (from ((c Card)) (live c) key) (get Card calls c))))''', [(7, 44, 'sum Card.calls')]),
     'a link that is computed': ('''
  (view get "/" (params (to text)) (template "<a href='{{ to }}'>on</a>"))
- (view get "/cards" (params) (put "cards"))''', []),
+ (view get "/cards" (params) (put "cards"))''', [(6, 58, 'escape to')]),
     'a redirect to one of two': ('''
  (view get "/" (params) (put "<a href='/one'>one</a>"))
  (view get "/one" (params (b bool)) (redirect (pick b "/two" "/three")))
  (view get "/two" (params) (put "two"))
  (view get "/three" (params) (put "three"))
- (view get "/four" (params) (put "four"))''', [(10, 12, SCRIPT)]),
+ (view get "/four" (params) (put "four"))''', [(10, 12, 'unlinked')]),
     'no page for a browser': ('''
  (view get "/" (params) (put "cards"))
  (view get "/cards" (params) (redirect "/"))''', []),
+    'an assign under a hidden condition': ('''
+ (view post "/count" (params)
+  (let calls 0
+   (for (from ((c Card)) (get Card known c) key) (assign calls (add calls 1)))
+   (if (and (live viewer) (lt 3 calls)) ((create p Paper (set (words "busy")))) ())))''', [(8, 26, 'branch Card.known')]),
+    'what is hidden is stored and decides nothing': ('''
+ (view post "/copy/{id}" (params (id (ref Card)))
+  (if (live viewer) ((create p Paper (set (words (get Card phone id))))) ()))''', []),
+    'a page that depends on what is hidden': ('''
+ (view post "/note/{id}" (params (id (ref Card)))
+  (if (get Card known id) ((put "known")) ((put "hidden")))
+  (if (live viewer) ((create p Paper (set (words "seen")))) ()))''', []),
+    'a record that is found by what is hidden': ('''
+ (view post "/first" (params)
+  (if (live viewer) ((delete Card (first (from ((c Card)) true (down c calls))))) ()))''', [(7, 64, 'branch Card.calls')]),
+    'names that are words of the language': ('''
+ (view post "/{live}" (params (live (ref Card)) (get text))
+  (if (and (live viewer) (eq (get Card owner live) viewer))
+   ((update Card live (set (phone get))) (esc get))
+   ()))''', []),
+    'a comparison where none is no match': ('''
+ (view post "/drop/{id}" (params (id (ref Card)))
+  (if (and (live (get Card owner id)) (eq (get Card owner id) viewer)) ((delete Card id)) ()))
+ (view post "/keep/{id}" (params (id (ref Card)))
+  (if (or (eq viewer (none User)) (eq (get Card owner id) viewer)) () ((delete Card id))))
+ (view post "/mine" (params)
+  (if (some (from ((u User)) (eq u viewer) key))
+   ((for (from ((c Card)) (eq (get Card owner c) viewer) key) (delete Card c))) ()))''', []),
+    'values that no text is in': ('''
+ (view get "/card/{id}" (params (id (ref Card)))
+  (let kind (pick (live id) "here" "gone")
+   (template "<p class={{ kind }} id={{ id }} data-calls={{ (get Card calls id) }}>{% (put kind) %}</p>")
+   (put (cat "<b>" (str (get Card calls id)) "</b>"))))''', []),
+    'branches inside of a tag': ('''
+ (view get "/card/{id}" (params (id (ref Card)) (to text))
+  (template "<p {% (if (live id)) %}title='{{ to }}'{% else %}title={{ to }}{% end %}>{{ to }}</p>"))''',
+                                 [(7, 72, 'escape to')]),
+}
+
+# Of fire.app, with views before its last one and with what was accepted: the status, the lines, and what is left.
+ALL = '''view post /first: unasked Person.hr
+    The first one is whoever serves it.
+
+view post /add: branch Person
+    It was tried,
+    and it is well.
+view post /remove: branch Person
+\tSo it is meant.
+'''
+LEFT = ['unasked Person.hr', 'branch Person', 'branch Person']
+MORE = '''
+ (view post "/again" (params (id (ref Person)))
+  (if (get Person hr viewer) ((delete Person id)) ()))
+'''
+ACCEPTED = {
+    'nothing is accepted': ('', '', (1, '', LEFT)),
+    'all is accepted': ('', ALL, (0, 'look: nothing to look at, 3 accepted\n', [])),
+    'one is accepted': ('', ALL.split('\n\n')[0], (1, '', LEFT[1:])),
+    'one is new': (MORE, ALL, (1, '', ['branch Person'])),
+    'one no longer applies': ('', ALL + 'view get /: markup Person.name\n    It is a name.\n', (
+        1, 'fire.app.accepted:9: no longer applies, nothing like it is found: view get /: markup Person.name\n', [])),
+    'one has no reason': ('', ALL.replace('    The first one is whoever serves it.\n', ''), (
+        2, 'fire.app.accepted:1: this entry has no reason: say below it, indented, why it is well\n', [])),
+    'a reason is empty': ('', 'view post /add: branch Person\n      \n', (
+        2, 'fire.app.accepted:1: this entry has no reason: say below it, indented, why it is well\n', [])),
+    'a reason has no entry': ('', '\n    It is well.\n', (
+        2, 'fire.app.accepted:2: this reason has no entry before it\n', [])),
+    'an entry has no form': ('', 'view post /add: wrong Person\n    It is well.\n', (
+        2, 'fire.app.accepted:1: expected PLACE: KIND SUBJECT, as a warning shows it after "accepted as"\n', [])),
+    'an entry is there twice': ('', ALL + ALL, (2, ''.join(
+        'fire.app.accepted:%d: this entry is in line %d already\n' % (line + 8, line) for line in (1, 4, 7)), [])),
 }
 
 AUDITS = [
@@ -99,22 +218,28 @@ AUDITS = [
 ]
 
 
-def said(tool, words):
-    done = subprocess.run([sys.executable, os.path.join(TOP, 'tools', tool)] + words, cwd=TOP, stdin=subprocess.DEVNULL,
-                          stdout=subprocess.PIPE, stderr=subprocess.STDOUT, check=False)
-    return done.stdout.decode()
+def run(tool, words, given=None):
+    """The exit status, and what is said."""
+    done = subprocess.run([sys.executable, os.path.join(TOP, 'tools', tool)] + words, cwd=TOP, stdout=subprocess.PIPE,
+                          stderr=subprocess.STDOUT, check=False, input=given or b'')
+    return done.returncode, done.stdout.decode()
 
 
 def looked(name, path, want):
     """What is wrong with what the second look says of a file, if anything."""
-    out = said('look.py', [path])
-    have = [(int(line), int(column), words) for line, column, words
-            in re.findall(r'(?m)^%s:(\d+):(\d+): look at this(.*)$' % re.escape(path), out)]
-    if not want and out == 'look: nothing to look at\n':
+    status, out = run('look.py', [path])
+    have = [(int(line), int(column), entry) for line, column, _, entry in places(path, out)]
+    if not want and (status, out) == (0, 'look: nothing to look at\n'):
         return None
-    right = len(have) == len(want) > 0 and all(
-        (line, column) == place[:2] and place[2] in words for (line, column, words), place in zip(have, want))
-    return None if right else '%s: want %s, have %s' % (name, want, out)
+    if want and (status, have) == (1, want) and all(re.search(WORDS[entry.split()[0]], words) for _, _, words, entry in places(path, out)):
+        return None
+    return '%s: want %s, have status %d and %s' % (name, want, status, out)
+
+
+def places(path, out):
+    """The line, the column, the words and the entry, without its view or model, of each place that is shown."""
+    return re.findall(r'(?m)^%s:(\d+):(\d+): look at this, in the [^:]*: (.*)\n(?:    .*\n)*?    accepted as: [^:]*: (.*)$'
+                      % re.escape(path), out)
 
 
 def application(case):
@@ -132,16 +257,55 @@ def of_texts(folder):
         yield looked(name, path, want)
 
 
+def of_large():
+    """The larger examples have nothing to look at that isn't accepted, and something that is."""
+    for path in LARGE:
+        status, out = run('look.py', [path])
+        right = status == 0 and re.fullmatch(r'look: nothing to look at, [1-9]\d* accepted\n', out)
+        yield None if right else '%s: status %d, %s' % (path, status, out)
+
+
+def of_accepted(folder):
+    """What is said of an application where something was accepted."""
+    path = os.path.join(folder, 'fire.app')
+    with open(os.path.join(TOP, 'checks', 'looks', 'fire.app'), encoding='utf-8') as file:
+        text = file.read()
+    for name, (more, accepted, want) in ACCEPTED.items():
+        for file, content in ((path, text.replace(' (view get', more + ' (view get')), (path + '.accepted', accepted)):
+            with open(file, 'w', encoding='utf-8') as handle:
+                handle.write(content)
+        status, out = run('look.py', [path])
+        have = (status, re.sub(r'(?m)^(?:    .*|.*look at this.*)\n', '', out).replace(path, 'fire.app'),
+                [entry for *_, entry in places(path, out)])
+        yield None if have == want else '%s: want %s, have %s' % (name, want, have)
+
+
+def of_refusals(folder):
+    """What isn't an application is refused, and the words of the command are told."""
+    path = os.path.join(folder, 'no.app')
+    for text in ('', '(app (model 5 (fields)))', '(app (view get "/" (params) (template "{{ x")))', '(view get "/" (params))',
+                 '(app (view get "/" (params) (putt 1)) (model A (fields)))', '(app (view get "/" (params) (put x)))'):
+        with open(path, 'w', encoding='utf-8') as file:
+            file.write(text)
+        status, out = run('look.py', [path])
+        want = 'look: %s is no application that is served; ./jac check %s says why\n' % (path, path)
+        yield None if (status, out) == (2, want) else '%s: %d, %s' % (text, status, out)
+    for words, want in (([path + '.none'], 2), (['--help'], 0), ([], 2)):
+        status, out = run('look.py', words)
+        yield None if status == want and out and 'Traceback' not in out else 'look.py %s: %d, %s' % (words, status, out)
+
+
 def of_audits():
     for words, parts in AUDITS:
-        out = said('audit.py', words)
+        out = run('audit.py', words)[1]
         for part in parts:
             yield None if part in out else '%s: no %r in what is said' % (words[1], part)
 
 
 def main():
     with tempfile.TemporaryDirectory() as folder:
-        results = [*of_texts(folder), *(looked(name, name, want) for name, want in EXAMPLES.items()), *of_audits()]
+        results = [*of_texts(folder), *(looked(name, name, want) for name, want in {**TRAPS, **EXAMPLES}.items()), *of_large(),
+                   *of_accepted(folder), *of_refusals(folder), *of_audits()]
     for wrong in filter(None, results):
         print('FAILED ' + wrong)
     failed = sum(1 for wrong in results if wrong)

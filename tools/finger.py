@@ -906,12 +906,18 @@ class Checker:
 
 
 def statements_of(node):
-    """The statements that a template's text writes; it has no fault."""
+    """The statements that a template's text writes, a `put` for each piece of literal text; it has no fault."""
     text, places = node.value, node.places
-    stack, current = [], []
+    stack, current, at = [], [], 0
 
     def tree(word, start, end, parts):
         return Node('list', start, end, None, [Node('atom', start, end, word)] + parts)
+
+    def literal(at, end):
+        if at == end:
+            return []
+        piece = Node('text', places[at], places[end], text[at:end], (), places[at:end + 1])
+        return [tree('put', piece.start, piece.end, [piece])]
 
     def close(block, current):
         kind, head, start, end, outer, then = block
@@ -925,6 +931,8 @@ def statements_of(node):
 
     for tag in tags_of(text):
         start, end = places[tag.at], places[min(tag.end + 1, len(places) - 1)] + 1
+        current += literal(at, tag.at)
+        at = tag.end + 2
         content = read_tree(text[tag.start:tag.end], places[tag.start:tag.end + 1])
         if tag.kind == 'output':
             current.append(tree('esc', start, end, [content]))
@@ -938,7 +946,7 @@ def statements_of(node):
         else:
             stack.append((content.head(), content.children[1:], start, end, current, None))
             current = []
-    return current
+    return current + literal(at, len(text))
 
 
 def templates_in(node):
