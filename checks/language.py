@@ -12,7 +12,10 @@ of these examples have one style.
 
 In the section on writing each case that is named is one of checks/cases, and each form stands in one of them, `..` for
 whatever is left out; what it says and no case has runs here, as does the tutorial's slip. What docs/TEMPLATES.md sets
-apart of a view stands in an example."""
+apart of a view stands in an example.
+
+README's first application is an example, in which there is nothing to look at, and the replies that README shows are
+those of its run."""
 import glob
 import html
 import os
@@ -235,6 +238,21 @@ def of_the_slip():
         yield None if (status, lines[3:]) == (0, want) else '%s: want %s, have %s' % (view, want, lines[3:])
 
 
+def of_readme():
+    """A result for the README's first application, for the replies that it shows, and for what there is to look at in it."""
+    blocks = apart('README.md')
+    name = re.search(r'`(examples/\S+)\.app`', read('README.md')).group(1)
+    app, events, out = (read('%s.%s' % (name, end)) for end in ('app', 'events', 'out'))
+    yield None if blocks[0] == app.rstrip('\n') else 'README.md: its first application is not %s.app' % name
+    shown = '$ ./jac replay %s.app %s.events --audit audit\n%s' % (name, name, out.rstrip('\n'))
+    yield None if blocks[1] == shown else 'README.md: want %s, have %s' % (shown, blocks[1])
+    status, lines = program(['replay', 'app', 'events'], {'app': blocks[0], 'events': events})
+    yield None if (status, lines) == (0, out.splitlines()) else 'README.md: its application puts %s' % lines
+    said = subprocess.run([sys.executable, os.path.join(TOP, 'tools', 'look.py'), name + '.app'], cwd=TOP,
+                          stdout=subprocess.PIPE, check=False).stdout.decode()
+    yield None if said == 'look: nothing to look at\n' else 'README.md: its application is to be looked at: ' + said
+
+
 def of_templates():
     """A result for each part of a view that the page on templates sets apart."""
     examples = [plain(read(name)) for name in ('examples/guestbook.app', 'examples/notes.app')]
@@ -251,7 +269,7 @@ def untold(folder, table):
 
 
 def main():
-    results = [*of_language(), *of_writing(), *of_the_slip(), *of_templates(), *of_pages(), *of_styles()]
+    results = [*of_language(), *of_readme(), *of_writing(), *of_the_slip(), *of_templates(), *of_pages(), *of_styles()]
     for wrong in filter(None, results):
         print('FAILED ' + wrong)
     failed = sum(1 for wrong in results if wrong)

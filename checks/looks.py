@@ -31,6 +31,11 @@ CASES = {
         (4, 42, 'nobody (get Event host this)'), (9, 11, 'branch Event.title'), (11, 50, 'markup Note.words')],
     'a_hidden_number_is_a_number': [
         (4, 52, 'nobody (get Score of this)'), (7, 33, 'write Score.points'), (9, 41, 'sum Score.points')],
+    'a_share_that_reads_a_hidden_record trap': [(18, 30, 'branch Paper')],
+    'a_share_that_reads_a_hidden_record recipe': [],
+    'a_role_that_reads_a_hidden_record trap': [
+        (5, 13, 'branch Person'), (5, 93, 'unasked Person.hr'), (7, 7, 'branch Person'), (9, 7, 'branch Person')],
+    'a_role_that_reads_a_hidden_record recipe': [(8, 43, 'unasked Role')],
 }
 TRAPS = {
     'checks/looks/share.app': [(18, 30, 'branch Paper')],
@@ -243,8 +248,10 @@ def places(path, out):
 
 
 def application(case):
+    """The application of a worked case: the file `app`, or that which is named after the case."""
+    case, _, name = case.partition(' ')
     with open(os.path.join(TOP, 'checks', 'cases', case + '.case'), encoding='utf-8') as file:
-        return re.search(r'(?s)== file app\n(.*?\n)== ', file.read()).group(1)
+        return re.search(r'(?s)== file %s\n(.*?\n)== ' % (name or 'app'), file.read()).group(1)
 
 
 def of_texts(folder):

@@ -1,5 +1,5 @@
 #!/usr/bin/env python3
-"""Says of the larger examples, and of the README's calendar, which guarded fields their policies read: an application
+"""Says of the larger examples, and of the calendar of `jac demo`, which guarded fields their policies read: an application
 is open where they read none and no group hides records (`is_open_app` in crates/jac_open_app_laws/specs/Open.antt). Compares that
 with the table of docs/GUARANTEES.md: where the page is out of date it says so, and its status is 1. With the word
 --write it writes the table anew. With other words it tells the same of these files."""

@@ -1,0 +1,20 @@
+(app (viewer User)
+ (model User (fields (name text)))
+ (model Event (fields (title text) (host (ref User)) (open bool))
+  (group (guards (title "private"))
+   (policy (or (get Event open this) (and (live viewer) (eq (get Event host this) viewer))))))
+ (view post "/join" (params (name text))
+  (if (live viewer) ((missing)) ((create u User (set (name name)) (put u)))))
+ (view post "/add" (params (title text) (open bool))
+  (if (live viewer)
+   ((create e Event (set (title title) (host viewer) (open open)) (put e)))
+   ((missing))))
+ (view post "/drop" (params (event (ref Event)))
+  (if (and (live viewer) (eq (get Event host event) viewer))
+   ((delete Event event))
+   ((missing))))
+ (view get "/" (params)
+  (template "<!DOCTYPE html>
+<title>Calendar</title>
+{% (for (from ((e Event)) true key)) %}<p>{{ (get Event title e) }}, by {{ (get User name (get Event host e)) }}
+{% end %}")))
