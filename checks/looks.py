@@ -1,16 +1,29 @@
 #!/usr/bin/env python3
-"""Compares what the second look (tools/look.py) and the audit in words (tools/audit.py) say with what was written down
-here by hand. No words. Prints each that is wrong, and ends with a count.
+"""Compares what the second look (tools/look.py), the audit in words (tools/audit.py) and the reasons in words (tools/why.py)
+say with what was written down here by hand. Words: the program, or none. Prints each that is wrong, and ends with a count.
 
-Of an application of checks/cases, and of an example, the lines and columns are written down at which it says `look at
-this`, with words that stand there; where it has nothing to say, none. Of three audits lines are written down."""
+Of each application the lines and columns are written down at which it says `look at this`, with the entries that accept
+them; where it has nothing to say, none. Applications are those of checks/looks, each with something that people were
+surprised by, worked cases, examples, and texts below. Of three audits lines are written down. Of `why` the lines and the
+rows of a store are written down, with what is said of them. Where the program is named, it makes these lines and rows too,
+and the same is said of them; where it isn't, that part is skipped."""
+import contextlib
+import io
 import os
 import re
+import sqlite3
 import subprocess
 import sys
 import tempfile
 
+sys.dont_write_bytecode = True
 TOP = os.path.dirname(os.path.dirname(os.path.abspath(__file__)))
+sys.path.insert(0, os.path.join(TOP, 'tools'))
+import audit                                                                # noqa: E402
+import look                                                                 # noqa: E402
+import proved                                                               # noqa: E402
+import why                                                                  # noqa: E402
+
 # Words that the message of each kind has, as patterns.
 WORDS = {
     'write': 'asks who the viewer is', 'unasked': 'so anybody may decide who', 'branch': '(?:depends on a condition|finds its record by a value) that',
@@ -222,17 +235,103 @@ AUDITS = [
         'reply 16: ']),
 ]
 
+DIARY = '''(app (viewer User)
+ (model User (fields (name text)))
+ (model Entry (fields (body text) (owner (ref User)))
+  (group hides (policy (and (live viewer) (eq (get Entry owner this) viewer))))
+  (group (guards (body "no words")) (policy (live viewer))))
+ (model Note (fields (body text)) (group (guards (body "none")) (policy true)))
+ (view post "/join" (params (name text)) (create u User (set (name name))))
+ (view post "/write" (params (body text)) (create e Entry (set (body body) (owner viewer))))
+ (view post "/note" (params (id (ref Entry)))
+  (if (live id) ((create n Note (set (body "it is there")))) ((create n Note (set (body "it is not there"))))))
+ (view post "/drop" (params (id (ref Entry))) (delete Entry id)))
+'''
+TWO = '''(app (model Note (fields (body text))
+  (group (guards (body "locked"))
+   (policy (or (eq (get Note body this) "b") (eq (count (from ((n Note)) (not (eq (get Note body n) "locked")) key)) 1)))))
+ (view post "/new" (params (body text)) (create n Note (set (body body)))))
+'''
+WRITTEN = '''ask - POST "/join" "name=Ann"
+ask - POST "/join" "name=Bob"
+ask 4096 POST "/write" "body=tired"
+ask 4096 POST "/note" "id=12289"
+'''
+# The first note is made where the entry (12289, label 98312) is shown, the second where it is hidden: 16386 and 20546, for
+# the fourth request, of which they are the first and the second create.
+ENTRY = 'Entry 12289 (made by POST 3): the record'
+SEEN, UNSEEN = 'Note 16386 (made by POST 4): body', 'Note 16450 (made by POST 4): body'
+FALSE = 'by its own policy, which is false: app:4: (and (live viewer) (eq (get Entry owner this) viewer))\n'
+ROWS = [(4096, []), (8192, []),
+        (12289, [(98312, 1), (98313, 0)]), (12289, [(98312, 1), (98313, 1)]),
+        (16386, [(98312, 1), (131088, 0)]), (16386, [(98312, 1), (131088, 1)]),
+        (16450, [(98312, 0), (131600, 0)]), (16450, [(98312, 0), (131600, 1)])]
+# The application, its requests, who asks, the lines of `why`, the rows of the store, and what is said with them.
+REASONS = {
+    'a policy that is false, and records that are not there': (DIARY, WRITTEN, '8192', '''shown 131600
+98312 Entry 12289 0 because 98312 Entry 12289 0
+98313 Entry 12289 1 because 98313 Entry 12289 1
+131088 Note 16386 0 because 131088 Note 16386 0
+''', ROWS, '''the viewer is shown
+    UNSEEN
+hidden stays ENTRY
+    FALSE\
+hidden stays Entry 12289 (made by POST 3): body
+    because its record is not there: it was stored where ENTRY is shown
+    and ENTRY stays hidden
+        FALSE\
+hidden stays SEEN
+    because its record is not there: it was stored where ENTRY is shown
+    and ENTRY stays hidden
+        FALSE\
+'''),
+    'a record that is there where another one is hidden': (DIARY, WRITTEN, '4096', '''shown 98312,98313,131088
+131600 Note 16450 0 because 131600 Note 16450 0
+''', ROWS, '''the viewer is shown
+    ENTRY
+    Entry 12289 (made by POST 3): body
+    SEEN
+hidden stays UNSEEN
+    because its record is not there: it was stored where ENTRY is hidden, and it is shown here
+'''),
+    'a record that was stored by what is gone': (DIARY, WRITTEN + 'ask 4096 POST "/drop" "id=12289"\n', '4096', '''shown 131600
+131088 Note 16386 0 because 131088 Note 16386 0
+''', [row for row in ROWS if row[0] != 12289], '''the viewer is shown
+    UNSEEN
+hidden stays SEEN
+    because its record is not there: it was stored where ENTRY is shown
+    and ENTRY is shown to nobody, because that record is gone
+'''.replace('ENTRY', ENTRY)),
+    'a label that another one stands against': (TWO, 'ask - POST "/new" "body=a"\nask - POST "/new" "body=b"\n', '-', '''shown 32768
+65536 Note 8192 0 because 32768 Note 4096 0
+''', [(4096, [(32768, 0)]), (4096, [(32768, 1)]), (8192, [(65536, 0)]), (8192, [(65536, 1)])], '''the viewer is shown
+    Note 4096 (made by POST 1): body
+hidden stays Note 8192 (made by POST 2): body
+    because Note 4096 (made by POST 1): body could not be shown beside it
+    by the policy of that one, app:3: (or (eq (get Note body this) "b") (eq (count (from ((n Note)) (not (eq (get Note body n) \
+"locked")) key)) 1))
+'''),
+}
 
-def run(tool, words, given=None):
-    """The exit status, and what is said."""
-    done = subprocess.run([sys.executable, os.path.join(TOP, 'tools', tool)] + words, cwd=TOP, stdout=subprocess.PIPE,
-                          stderr=subprocess.STDOUT, check=False, input=given or b'')
-    return done.returncode, done.stdout.decode()
+
+def run(tool, words, folder=TOP):
+    """The exit status of a tool, and what it says. It is called in this process, so that it begins at once."""
+    said, before = io.StringIO(), os.getcwd()
+    os.chdir(folder)
+    try:
+        with contextlib.redirect_stdout(said), contextlib.redirect_stderr(said):
+            status = tool.main(words) or 0
+    except SystemExit as end:
+        status = end.code if isinstance(end.code, int) else 1
+        said.write('' if isinstance(end.code, int) else '%s\n' % end.code)
+    finally:
+        os.chdir(before)
+    return status, said.getvalue()
 
 
 def looked(name, path, want):
     """What is wrong with what the second look says of a file, if anything."""
-    status, out = run('look.py', [path])
+    status, out = run(look, [path])
     have = [(int(line), int(column), entry) for line, column, _, entry in places(path, out)]
     if not want and (status, out) == (0, 'look: nothing to look at\n'):
         return None
@@ -267,7 +366,7 @@ def of_texts(folder):
 def of_large():
     """The larger examples have nothing to look at that isn't accepted, and something that is."""
     for path in LARGE:
-        status, out = run('look.py', [path])
+        status, out = run(look, [path])
         right = status == 0 and re.fullmatch(r'look: nothing to look at, [1-9]\d* accepted\n', out)
         yield None if right else '%s: status %d, %s' % (path, status, out)
 
@@ -281,7 +380,7 @@ def of_accepted(folder):
         for file, content in ((path, text.replace(' (view get', more + ' (view get')), (path + '.accepted', accepted)):
             with open(file, 'w', encoding='utf-8') as handle:
                 handle.write(content)
-        status, out = run('look.py', [path])
+        status, out = run(look, [path])
         have = (status, re.sub(r'(?m)^(?:    .*|.*look at this.*)\n', '', out).replace(path, 'fire.app'),
                 [entry for *_, entry in places(path, out)])
         yield None if have == want else '%s: want %s, have %s' % (name, want, have)
@@ -294,29 +393,84 @@ def of_refusals(folder):
                  '(app (view get "/" (params) (putt 1)) (model A (fields)))', '(app (view get "/" (params) (put x)))'):
         with open(path, 'w', encoding='utf-8') as file:
             file.write(text)
-        status, out = run('look.py', [path])
+        status, out = run(look, [path])
         want = 'look: %s is no application that is served; ./jac check %s says why\n' % (path, path)
         yield None if (status, out) == (2, want) else '%s: %d, %s' % (text, status, out)
     for words, want in (([path + '.none'], 2), (['--help'], 0), ([], 2)):
-        status, out = run('look.py', words)
+        status, out = run(look, words)
         yield None if status == want and out and 'Traceback' not in out else 'look.py %s: %d, %s' % (words, status, out)
 
 
 def of_audits():
     for words, parts in AUDITS:
-        out = run('audit.py', words)[1]
+        out = run(audit, words)[1]
         for part in parts:
             yield None if part in out else '%s: no %r in what is said' % (words[1], part)
+
+
+def spelled(text):
+    """What is said, with the names that stand for what is said more than once."""
+    for name, words in (('UNSEEN', UNSEEN), ('SEEN', SEEN), ('ENTRY', ENTRY), ('FALSE', FALSE)):
+        text = text.replace(name, words)
+    return text
+
+
+def put(folder, files):
+    for name, text in files.items():
+        with open(os.path.join(folder, name), 'w', encoding='utf-8') as file:
+            file.write(text)
+
+
+def stored(path, rows):
+    """A store of these rows: each a record, and the labels under which it is there."""
+    with contextlib.closing(sqlite3.connect(path)) as database, database:
+        database.execute('CREATE TABLE rec(model INTEGER, jid BLOB, alt INTEGER, jvars BLOB, body BLOB)')
+        for number, (record, guard) in enumerate(rows):
+            labels = b''.join(label.to_bytes(16, 'big') + bytes([shown]) for label, shown in guard)
+            database.execute('INSERT INTO rec VALUES(?, ?, ?, ?, ?)', (record % 64, record.to_bytes(16, 'big'), number, labels, b''))
+
+
+def of_reasons():
+    """What is said of the lines of `why` with the store that they are of, and without it."""
+    for name, (app, _, _, lines, rows, want) in REASONS.items():
+        with tempfile.TemporaryDirectory() as folder:
+            put(folder, {'app': app, 'lines': lines})
+            stored(os.path.join(folder, 'd'), rows)
+            status, out = run(why, ['app', 'lines', '--db', 'd'], folder)
+            yield None if (status, out) == (0, spelled(want)) else '%s: want %s, have %d and %s' % (name, spelled(want), status, out)
+            status, out = run(why, ['app', 'lines'], folder)
+            own = '\n    by its own policy, or because its record is not there (--db says which): app:'
+            count = sum(line.split()[:4] == line.split()[5:] for line in lines.splitlines())
+            yield None if (status, out.count(own)) == (0, count) else '%s, without its store: %d and %s' % (name, status, out)
+            status, out = run(why, ['app', 'lines', '--db', 'none'], folder)
+            yield None if (status, out) == (1, 'why: none: No such file or directory\n') else '%s: %d and %s' % (name, status, out)
+
+
+def of_program(program):
+    """The lines and the store that the program makes of the same requests, and what is said of them."""
+    for name, (app, events, viewer, lines, _, want) in REASONS.items():
+        with tempfile.TemporaryDirectory() as folder:
+            put(folder, {'app': app, 'events': events})
+            for words in (['replay', 'app', 'events'], ['why', 'app', viewer]):
+                done = subprocess.run([program, *words, '--db', 'd'], cwd=folder, stdout=subprocess.PIPE, check=False)
+            put(folder, {'lines': done.stdout.decode()})
+            out = run(why, ['app', 'lines', '--db', 'd'], folder)[1]
+            right = (done.stdout.decode(), out) == (lines, spelled(want))
+            yield None if right else '%s, by the program: want %s and %s, have %s and %s' % (
+                name, lines, spelled(want), done.stdout.decode(), out)
 
 
 def main():
     with tempfile.TemporaryDirectory() as folder:
         results = [*of_texts(folder), *(looked(name, name, want) for name, want in {**TRAPS, **EXAMPLES}.items()), *of_large(),
-                   *of_accepted(folder), *of_refusals(folder), *of_audits()]
+                   *of_accepted(folder), *of_refusals(folder), *of_audits(), *of_reasons()]
+    if sys.argv[1:]:
+        results += of_program(proved.program(sys.argv[1]))
     for wrong in filter(None, results):
         print('FAILED ' + wrong)
     failed = sum(1 for wrong in results if wrong)
-    print('%d passed, %d failed' % (len(results) - failed, failed))
+    skipped = '' if sys.argv[1:] else ', %d skipped' % len(REASONS)
+    print('%d passed, %d failed%s' % (len(results) - failed, failed, skipped))
     return 1 if failed else 0
 
 

@@ -1,17 +1,26 @@
 #!/usr/bin/env python3
-"""Tells in words what `why` put: what the viewer is shown, and for whatever else is guarded which policy stands
-against it, with its text and where that stands.
-Words: the application's file or folder, and, where there is one, the file of the lines; else they are read from standard input,
-as in `./jac why examples/calendar.app 8192 --db raid.db | python3 tools/why.py examples/calendar.app`.
+"""Says in words what `jac why` put: what the viewer is shown, and for each thing that stays hidden why it does.
+
+  ./jac why examples/calendar.app 8192 --db raid.db | python3 tools/why.py examples/calendar.app --db raid.db
 
 The first line is `shown LABELS`, each further one `LABEL MODEL ID GROUP because LABEL MODEL ID GROUP`: the guarded fields
-of that record, or the record itself where the group hides it, stay hidden, since with them the second label's policy
-isn't true. That is mostly the label's own policy. Where it is another one's, this one could be shown alone, and not
-beside what is shown already."""
-import re
-import signal
-import sys
+of that record, or the record itself where the group hides it, stay hidden, because with them the second label isn't
+allowed. Mostly that is the label itself, for one of two reasons, which the lines don't tell apart:
+
+  - its policy is false, or
+  - its record isn't there: it was stored where another label is shown, and that one is hidden from this viewer.
+
+With --db, the file of the store, this says which, and in the second case why the other label is hidden. The file is
+copied first, and never written. Where it is another label, the first could be shown alone, and not beside what is shown."""
+import argparse
+import contextlib
 import os
+import re
+import shutil
+import signal
+import sqlite3
+import sys
+import tempfile
 
 sys.dont_write_bytecode = True
 sys.path.insert(0, os.path.dirname(os.path.abspath(__file__)))
@@ -20,10 +29,13 @@ import audit                                                                # no
 import finger                                                               # noqa: E402
 
 LINE = re.compile(r'(\d+) (\S+) (\d+) (\d+) because (\d+) (\S+) (\d+) (\d+)')
+SHOWN = re.compile(r'shown (-|\d+(?:,\d+)*)')
+# A label in a row: 16 bytes, and one that is 1 where the row is there if the label is shown, and 0 if it is hidden.
+LITERAL = 17
 
 
 class Policies:
-    """The policy of each label: the line on which it stands, and its text on one line."""
+    """The policy of each label: the line where it is, and its text on one line."""
 
     def __init__(self, path, data):
         self.path, self.data = path, data
@@ -40,43 +52,124 @@ class Policies:
         return '%s: %s' % (place, ' '.join(text.split()))
 
 
-def named(names, label):
-    record, fields = names.label(label)
-    return '%s: %s' % (record, fields) if fields else record
+class Store:
+    """Under which labels each record of a store is there: for each of its rows those that are shown or hidden."""
+
+    def __init__(self, rows):
+        self.rows = {}
+        for record, guard in rows:
+            self.rows.setdefault(int.from_bytes(record, 'big'), []).append(
+                {(int.from_bytes(guard[at:at + 16], 'big'), guard[at + 16] == 1) for at in range(0, len(guard), LITERAL)})
+
+    @classmethod
+    def of_file(cls, path):
+        """The store in a file, of which a copy is read, since SQLite may write to a file that it opens."""
+        with tempfile.TemporaryDirectory() as folder:
+            copy = os.path.join(folder, 'store')
+            shutil.copyfile(path, copy)
+            if os.path.exists(path + '-wal'):
+                shutil.copyfile(path + '-wal', copy + '-wal')
+            with contextlib.closing(sqlite3.connect(copy)) as database:
+                return cls(database.execute('SELECT jid, jvars FROM rec ORDER BY model, jid, alt').fetchall())
+
+    def lacks(self, record, world):
+        """Nothing where a record is there in a world; else, for each way in which it could be, what the world lacks."""
+        ways = [{(label, shown) for label, shown in row if (label in world) != shown} for row in self.rows.get(record, [])]
+        if set() in ways:
+            return []
+        least = [way for way in ways if not any(other < way for other in ways)]
+        return [way for at, way in enumerate(least) if way not in least[:at]]
 
 
-def shown(names, labels):
-    if labels == '-':
-        return 'the viewer is shown nothing that is guarded'
-    return '\n'.join(['the viewer is shown'] + ['    ' + named(names, int(label)) for label in labels.split(',')])
+class Why:
+    """What is to be said of the lines, given the application, and the store or None."""
+
+    def __init__(self, names, policies, store, lines):
+        self.names, self.policies, self.store, self.lines = names, policies, store, lines
+        found = [SHOWN.fullmatch(line) for line in lines]
+        self.shown = {int(label) for one in found if one and one.group(1) != '-' for label in one.group(1).split(',')}
+        found = [LINE.fullmatch(line) for line in lines]
+        self.reasons = {int(one.group(1)): int(one.group(5)) for one in found if one}
+
+    def named(self, label):
+        record, fields = self.names.label(label)
+        return '%s: %s' % (record, fields) if fields else record
+
+    def told(self):
+        for line in self.lines:
+            found = LINE.fullmatch(line)
+            if found:
+                label = int(found.group(1))
+                yield from self.hidden('hidden stays ' + self.named(label), '    ', label, {label})
+            elif SHOWN.fullmatch(line):
+                labels = [] if line.endswith(' -') else line[len('shown '):].split(',')
+                yield 'the viewer is shown' + ('' if labels else ' nothing that is guarded')
+                yield from ('    ' + self.named(int(label)) for label in labels)
+            else:
+                yield 'not a line of `why`: ' + line
+
+    def hidden(self, head, indent, label, seen):
+        """Why a label stays hidden. `seen` has the labels of which that was said."""
+        reason = self.reasons[label]
+        lacks = self.store.lacks(reason // 8, self.shown | {label}) if self.store else []
+        yield head
+        if label != reason:
+            yield '%sbecause %s could not be shown beside it' % (indent, self.named(reason))
+        if self.store and reason // 8 not in self.store.rows:
+            yield '%sbecause there is no such record in this store: it is another one than that of the lines' % indent
+        elif lacks:
+            yield '%sbecause %s record is not there: it was stored where %s' % (
+                indent, 'its' if label == reason else 'that', ', or where '.join(self.way(way) for way in lacks))
+            for other in sorted({other for way in lacks for other, shown in way if shown} - seen):
+                yield from self.needed(other, indent, seen | {other})
+        elif label != reason:
+            yield '%sby the policy of that one, %s' % (indent, self.policies.told(reason))
+        elif self.store:
+            yield '%sby its own policy, which is false: %s' % (indent, self.policies.told(label))
+        else:
+            yield '%sby its own policy, or because its record is not there (--db says which): %s' % (
+                indent, self.policies.told(label))
+
+    def needed(self, label, indent, seen):
+        """Why a label is hidden by which a record isn't there."""
+        if label in self.reasons:
+            yield from self.hidden('%sand %s stays hidden' % (indent, self.named(label)), indent + '    ', label, seen)
+        elif label // 8 in self.store.rows:
+            yield '%sand %s stays hidden, of which the lines say nothing' % (indent, self.named(label))
+        else:
+            yield '%sand %s is shown to nobody, because that record is gone' % (indent, self.named(label))
+
+    def way(self, way):
+        return ' and '.join('%s is %s' % (self.named(label), 'shown' if shown else 'hidden, and it is shown here')
+                            for label, shown in sorted(way))
 
 
-def hidden(names, policies, label, reason):
-    head = 'hidden stays ' + named(names, label)
-    if label == reason:
-        return '%s\n    by its own policy, %s' % (head, policies.told(label))
-    return '%s\n    since beside it %s could not be shown\n    by the policy of that one, %s' % (
-        head, named(names, reason), policies.told(reason))
+def read_application(name):
+    with open(name, 'rb') as file:
+        return file.read()
 
 
-def told(names, policies, line):
-    found = re.fullmatch(r'shown (-|\d+(?:,\d+)*)', line)
-    if found:
-        return shown(names, found.group(1))
-    found = LINE.fullmatch(line)
-    if found:
-        return hidden(names, policies, int(found.group(1)), int(found.group(5)))
-    return 'not a line of `why`: ' + line
+def options(words):
+    parser = argparse.ArgumentParser(description=__doc__, formatter_class=argparse.RawDescriptionHelpFormatter)
+    parser.add_argument('application', help='the file of the application')
+    parser.add_argument('lines', nargs='?', help='the file of the lines; else they are read from standard input')
+    parser.add_argument('--db', metavar='FILE', help='the file of the store that `jac why` was asked about')
+    return parser.parse_args(words)
 
 
 def main(words):
-    if len(words) not in (1, 2):
-        sys.exit(__doc__)
-    data = assemble.read_or_exit(words[0])
-    names, policies = audit.Names(data), Policies(words[0], data)
-    with open(words[1], encoding='utf-8', errors='replace') if len(words) == 2 else sys.stdin as file:
-        for line in file:
-            print(told(names, policies, line.rstrip('\n')))
+    given = options(words)
+    try:
+        data = read_application(given.application)
+        store = Store.of_file(given.db) if given.db else None
+        with open(given.lines, encoding='utf-8', errors='replace') if given.lines else sys.stdin as file:
+            lines = file.read().splitlines()
+    except OSError as fault:
+        sys.exit('why: %s: %s' % (fault.filename, fault.strerror))
+    except sqlite3.Error as fault:
+        sys.exit('why: %s: %s' % (given.db, fault))
+    for line in Why(audit.Names(data), Policies(given.application, data), store, lines).told():
+        print(line)
 
 
 if __name__ == '__main__':
