@@ -1,12 +1,13 @@
 #!/usr/bin/env python3
-"""Compares what the second look (tools/look.py), the audit in words (tools/audit.py) and the reasons in words (tools/why.py)
-say with what was written down here by hand. Words: the program, or none. Prints each that is wrong, and ends with a count.
+"""Compares what the second look (tools/look.py), the audit in words (tools/audit.py) and the reasons in words
+(tools/why.py) say with what was written down here by hand. Words: the program, or none. Prints each that is wrong, and
+ends with a count.
 
 Of each application the lines and columns are written down at which it says `look at this`, with the entries that accept
 them; where it has nothing to say, none. Applications are those of checks/looks, each with something that people were
-surprised by, worked cases, examples, and texts below. Of three audits lines are written down. Of `why` the lines and the
-rows of a store are written down, with what is said of them. Where the program is named, it makes these lines and rows too,
-and the same is said of them; where it isn't, that part is skipped."""
+surprised by, worked cases, examples, and texts below. Of three audits lines are written down. Of `why` the lines and
+the rows of a store are written down, with what is said of them. Where the program is named, it makes these lines and
+rows too, and the same is said of them; where it isn't, that part is skipped."""
 import contextlib
 import io
 import os
@@ -24,16 +25,25 @@ import look                                                                 # no
 import proved                                                               # noqa: E402
 import why                                                                  # noqa: E402
 
+
+def application(case):
+    """A file of a worked case: `app`, or that which is named after the case."""
+    case, _, name = case.partition(' ')
+    with open(os.path.join(TOP, 'checks', 'cases', case + '.case'), encoding='utf-8') as file:
+        return re.search(r'(?s)== file %s\n(.*?\n)== ' % (name or 'app'), file.read()).group(1)
+
+
 # Words that the message of each kind has, as patterns.
 WORDS = {
-    'write': 'asks who the viewer is', 'unasked': 'so anybody may decide who', 'branch': '(?:depends on a condition|finds its record by a value) that',
+    'write': 'asks who the viewer is', 'unasked': 'so anybody may decide who',
+    'branch': '(?:depends on a condition|finds its record by a value) that',
     'nobody': 'none equals none', 'copy': 'nobody is shown the label of a record that is gone',
     'sum': 'where it is hidden its public value counts', 'markup': 'each page is sent as HTML',
     'escape': 'escaping does not protect this place', 'redirect': 'may lead to another site',
     'unlinked': 'no page of this application leads here',
 }
 
-# Where each application is to be looked at: the line, the column, and the entry that accepts it, without its view or model.
+# Where each application is to be looked at: the line, the column, and the entry without its view or model.
 CASES = {
     'a_form_saves_what_it_was_filled_with': [
         (4, 44, 'nobody (get Card owner this)'), (7, 55, 'markup Card.phone'), (9, 25, 'write Card.phone')],
@@ -60,7 +70,8 @@ TRAPS = {
     'checks/looks/profiles.app': [
         (7, 14, 'escape name'), (7, 84, 'markup name'), (8, 13, 'escape Person.site'), (9, 29, 'escape note'),
         (9, 44, 'escape note'), (11, 20, 'escape note'), (14, 20, 'markup note')],
-    'checks/looks/salaries.app': [(5, 7, 'branch Person.boss'), (9, 7, 'branch Person.boss'), (10, 13, 'branch Person.salary')],
+    'checks/looks/salaries.app': [
+        (5, 7, 'branch Person.boss'), (9, 7, 'branch Person.boss'), (10, 13, 'branch Person.salary')],
     'checks/looks/tasks.app': [(5, 67, 'nobody (get Task helper this)'), (12, 13, 'nobody (get Task of id)')],
     'checks/looks/tickets.app': [(9, 7, 'branch Ticket')],
     'checks/looks/visits.app': [(9, 29, 'branch Visit'), (14, 8, 'branch Visit')],
@@ -88,6 +99,7 @@ EXAMPLES = {
     'examples/meetings.app': [
         (12, 13, 'unlinked'), (15, 13, 'unlinked'), (19, 13, 'unlinked'), (20, 47, 'branch Event.host')],
     'examples/notes.app': [],
+    'examples/planner.app': [],
     'examples/people.app': [(10, 9, 'markup User.name'), (10, 46, 'markup User.town')],
     'examples/records.app': [
         (12, 37, 'unasked Person.doctor'), (20, 30, 'branch Record'), (27, 9, 'markup Record.day'),
@@ -101,7 +113,7 @@ LARGE = ('examples/calendar/app', 'examples/conference/app', 'examples/courses/a
 MODEL = '''(app (viewer User)
  (model User (fields (name text)))
  (model Card (fields (owner (ref User)) (phone text) (calls int) (known bool))
-  (group (guards (phone "hidden") (calls 0) (known false)) (policy (and (live viewer) (eq (get Card owner this) viewer)))))
+  (group (guards (phone "-") (calls 0) (known false)) (policy (and (live viewer) (eq (get Card owner this) viewer)))))
  (model Paper (fields (words text)))
 %s)
 '''
@@ -138,7 +150,8 @@ VIEWS = {
  (view post "/count" (params)
   (let calls 0
    (for (from ((c Card)) (get Card known c) key) (assign calls (add calls 1)))
-   (if (and (live viewer) (lt 3 calls)) ((create p Paper (set (words "busy")))) ())))''', [(8, 26, 'branch Card.known')]),
+   (if (and (live viewer) (lt 3 calls)) ((create p Paper (set (words "busy")))) ())))''',
+                                           [(8, 26, 'branch Card.known')]),
     'what is hidden is stored and decides nothing': ('''
  (view post "/copy/{id}" (params (id (ref Card)))
   (if (live viewer) ((create p Paper (set (words (get Card phone id))))) ()))''', []),
@@ -148,7 +161,8 @@ VIEWS = {
   (if (live viewer) ((create p Paper (set (words "seen")))) ()))''', []),
     'a record that is found by what is hidden': ('''
  (view post "/first" (params)
-  (if (live viewer) ((delete Card (first (from ((c Card)) true (down c calls))))) ()))''', [(7, 64, 'branch Card.calls')]),
+  (if (live viewer) ((delete Card (first (from ((c Card)) true (down c calls))))) ()))''',
+                                                [(7, 64, 'branch Card.calls')]),
     'names that are words of the language': ('''
  (view post "/{live}" (params (live (ref Card)) (get text))
   (if (and (live viewer) (eq (get Card owner live) viewer))
@@ -249,7 +263,8 @@ DIARY = '''(app (viewer User)
 '''
 TWO = '''(app (model Note (fields (body text))
   (group (guards (body "locked"))
-   (policy (or (eq (get Note body this) "b") (eq (count (from ((n Note)) (not (eq (get Note body n) "locked")) key)) 1)))))
+   (policy
+    (or (eq (get Note body this) "b") (eq (count (from ((n Note)) (not (eq (get Note body n) "locked")) key)) 1)))))
  (view post "/new" (params (body text)) (create n Note (set (body body)))))
 '''
 WRITTEN = '''ask - POST "/join" "name=Ann"
@@ -257,8 +272,8 @@ ask - POST "/join" "name=Bob"
 ask 4096 POST "/write" "body=tired"
 ask 4096 POST "/note" "id=12289"
 '''
-# The first note is made where the entry (12289, label 98312) is shown, the second where it is hidden: 16386 and 20546, for
-# the fourth request, of which they are the first and the second create.
+# Of the two notes one is made where the entry (12289, label 98312) is shown, and one where it is hidden: 16386 and
+# 16450, by the first and the second create of the fourth request.
 ENTRY = 'Entry 12289 (made by POST 3): the record'
 SEEN, UNSEEN = 'Note 16386 (made by POST 4): body', 'Note 16450 (made by POST 4): body'
 FALSE = 'by its own policy, which is false: app:4: (and (live viewer) (eq (get Entry owner this) viewer))\n'
@@ -266,6 +281,8 @@ ROWS = [(4096, []), (8192, []),
         (12289, [(98312, 1), (98313, 0)]), (12289, [(98312, 1), (98313, 1)]),
         (16386, [(98312, 1), (131088, 0)]), (16386, [(98312, 1), (131088, 1)]),
         (16450, [(98312, 0), (131600, 0)]), (16450, [(98312, 0), (131600, 1)])]
+PAPER = 'by its own policy, which is false: app:6: (and (live viewer) (or (eq (get Paper owner this) viewer) ' \
+    '(some (from ((r Reader)) (and (eq (get Reader paper r) this) (eq (get Reader person r) viewer)) key))))'
 # The application, its requests, who asks, the lines of `why`, the rows of the store, and what is said with them.
 REASONS = {
     'a policy that is false, and records that are not there': (DIARY, WRITTEN, '8192', '''shown 131600
@@ -294,7 +311,8 @@ hidden stays SEEN
 hidden stays UNSEEN
     because its record is not there: it was stored where ENTRY is hidden, and it is shown here
 '''),
-    'a record that was stored by what is gone': (DIARY, WRITTEN + 'ask 4096 POST "/drop" "id=12289"\n', '4096', '''shown 131600
+    'a record that was stored by what is gone': (DIARY, WRITTEN + 'ask 4096 POST "/drop" "id=12289"\n', '4096',
+                                                 '''shown 131600
 131088 Note 16386 0 because 131088 Note 16386 0
 ''', [row for row in ROWS if row[0] != 12289], '''the viewer is shown
     UNSEEN
@@ -302,14 +320,29 @@ hidden stays SEEN
     because its record is not there: it was stored where ENTRY is shown
     and ENTRY is shown to nobody, because that record is gone
 '''.replace('ENTRY', ENTRY)),
-    'a label that another one stands against': (TWO, 'ask - POST "/new" "body=a"\nask - POST "/new" "body=b"\n', '-', '''shown 32768
+    'a share that reads a hidden record': (
+        application('a_share_that_reads_a_hidden_record trap'),
+        application('a_share_that_reads_a_hidden_record events'), '8192', '''shown -
+98312 Paper 12289 0 because 98312 Paper 12289 0
+163856 Reader 20482 0 because 163856 Reader 20482 0
+''', [(4096, []), (8192, []), (12289, [(98312, 1)]), (20482, [(98312, 1), (163856, 1)])],
+        '''the viewer is shown nothing that is guarded
+hidden stays Paper 12289 (made by POST 3): the record
+    PAPER
+hidden stays Reader 20482 (made by POST 5): the record
+    because its record is not there: it was stored where Paper 12289 (made by POST 3): the record is shown
+    and Paper 12289 (made by POST 3): the record stays hidden
+        PAPER
+'''.replace('PAPER', PAPER)),
+    'a label that another one stands against': (TWO, 'ask - POST "/new" "body=a"\nask - POST "/new" "body=b"\n', '-',
+                                                '''shown 32768
 65536 Note 8192 0 because 32768 Note 4096 0
 ''', [(4096, [(32768, 0)]), (4096, [(32768, 1)]), (8192, [(65536, 0)]), (8192, [(65536, 1)])], '''the viewer is shown
     Note 4096 (made by POST 1): body
 hidden stays Note 8192 (made by POST 2): body
     because Note 4096 (made by POST 1): body could not be shown beside it
-    by the policy of that one, app:3: (or (eq (get Note body this) "b") (eq (count (from ((n Note)) (not (eq (get Note body n) \
-"locked")) key)) 1))
+    by the policy of that one, app:4: (or (eq (get Note body this) "b") (eq (count (from ((n Note)) (not \
+(eq (get Note body n) "locked")) key)) 1))
 '''),
 }
 
@@ -335,22 +368,16 @@ def looked(name, path, want):
     have = [(int(line), int(column), entry) for line, column, _, entry in places(path, out)]
     if not want and (status, out) == (0, 'look: nothing to look at\n'):
         return None
-    if want and (status, have) == (1, want) and all(re.search(WORDS[entry.split()[0]], words) for _, _, words, entry in places(path, out)):
+    are_said = all(re.search(WORDS[entry.split()[0]], words) for _, _, words, entry in places(path, out))
+    if want and (status, have) == (1, want) and are_said:
         return None
     return '%s: want %s, have status %d and %s' % (name, want, status, out)
 
 
 def places(path, out):
     """The line, the column, the words and the entry, without its view or model, of each place that is shown."""
-    return re.findall(r'(?m)^%s:(\d+):(\d+): look at this, in the [^:]*: (.*)\n(?:    .*\n)*?    accepted as: [^:]*: (.*)$'
-                      % re.escape(path), out)
-
-
-def application(case):
-    """The application of a worked case: the file `app`, or that which is named after the case."""
-    case, _, name = case.partition(' ')
-    with open(os.path.join(TOP, 'checks', 'cases', case + '.case'), encoding='utf-8') as file:
-        return re.search(r'(?s)== file %s\n(.*?\n)== ' % (name or 'app'), file.read()).group(1)
+    return re.findall(r'(?m)^%s:(\d+):(\d+): look at this, in the [^:]*: (.*)\n(?:    .*\n)*?'
+                      r'    accepted as: [^:]*: (.*)$' % re.escape(path), out)
 
 
 def of_texts(folder):
@@ -389,8 +416,9 @@ def of_accepted(folder):
 def of_refusals(folder):
     """What isn't an application is refused, and the words of the command are told."""
     path = os.path.join(folder, 'no.app')
-    for text in ('', '(app (model 5 (fields)))', '(app (view get "/" (params) (template "{{ x")))', '(view get "/" (params))',
-                 '(app (view get "/" (params) (putt 1)) (model A (fields)))', '(app (view get "/" (params) (put x)))'):
+    for text in ('', '(app (model 5 (fields)))', '(app (view get "/" (params) (template "{{ x")))',
+                 '(view get "/" (params))', '(app (view get "/" (params)) (model A (fields)))',
+                 '(app (view get "/" (params) (put x)))'):
         with open(path, 'w', encoding='utf-8') as file:
             file.write(text)
         status, out = run(look, [path])
@@ -427,23 +455,24 @@ def stored(path, rows):
         database.execute('CREATE TABLE rec(model INTEGER, jid BLOB, alt INTEGER, jvars BLOB, body BLOB)')
         for number, (record, guard) in enumerate(rows):
             labels = b''.join(label.to_bytes(16, 'big') + bytes([shown]) for label, shown in guard)
-            database.execute('INSERT INTO rec VALUES(?, ?, ?, ?, ?)', (record % 64, record.to_bytes(16, 'big'), number, labels, b''))
+            row = record % 64, record.to_bytes(16, 'big'), number, labels, b''
+            database.execute('INSERT INTO rec VALUES(?, ?, ?, ?, ?)', row)
 
 
 def of_reasons():
-    """What is said of the lines of `why` with the store that they are of, and without it."""
+    """What is said of the lines of `why` with the store that they are of, without it, and with one that isn't there."""
     for name, (app, _, _, lines, rows, want) in REASONS.items():
+        own = sum(line.split()[:4] == line.split()[5:] for line in lines.splitlines())
+        either = '\n    by its own policy, or because its record is not there (--db says which): app:'
         with tempfile.TemporaryDirectory() as folder:
             put(folder, {'app': app, 'lines': lines})
             stored(os.path.join(folder, 'd'), rows)
-            status, out = run(why, ['app', 'lines', '--db', 'd'], folder)
-            yield None if (status, out) == (0, spelled(want)) else '%s: want %s, have %d and %s' % (name, spelled(want), status, out)
-            status, out = run(why, ['app', 'lines'], folder)
-            own = '\n    by its own policy, or because its record is not there (--db says which): app:'
-            count = sum(line.split()[:4] == line.split()[5:] for line in lines.splitlines())
-            yield None if (status, out.count(own)) == (0, count) else '%s, without its store: %d and %s' % (name, status, out)
-            status, out = run(why, ['app', 'lines', '--db', 'none'], folder)
-            yield None if (status, out) == (1, 'why: none: No such file or directory\n') else '%s: %d and %s' % (name, status, out)
+            have = run(why, ['app', 'lines', '--db', 'd'], folder)
+            yield None if have == (0, spelled(want)) else '%s: want %s, have %s' % (name, spelled(want), have)
+            have = run(why, ['app', 'lines'], folder)
+            yield None if (have[0], have[1].count(either)) == (0, own) else '%s, without a store: %s' % (name, have)
+            have = run(why, ['app', 'lines', '--db', 'none'], folder)
+            yield None if have == (1, 'why: none: No such file or directory\n') else '%s: %s' % (name, have)
 
 
 def of_program(program):
@@ -462,8 +491,8 @@ def of_program(program):
 
 def main():
     with tempfile.TemporaryDirectory() as folder:
-        results = [*of_texts(folder), *(looked(name, name, want) for name, want in {**TRAPS, **EXAMPLES}.items()), *of_large(),
-                   *of_accepted(folder), *of_refusals(folder), *of_audits(), *of_reasons()]
+        results = [*of_texts(folder), *(looked(name, name, want) for name, want in {**TRAPS, **EXAMPLES}.items()),
+                   *of_large(), *of_accepted(folder), *of_refusals(folder), *of_audits(), *of_reasons()]
     if sys.argv[1:]:
         results += of_program(proved.program(sys.argv[1]))
     for wrong in filter(None, results):

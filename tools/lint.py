@@ -1,5 +1,5 @@
-"""What there is to look at in the text of an application. `found_in` answers it for a text; tools/look.py says what each
-kind means, and prints it. Nothing here says that an application is wrong."""
+"""What there is to look at in the text of an application. `found_in` answers it for a text, and tools/look.py prints it
+and says what each kind means. Nothing here says that an application is wrong."""
 import collections
 import os
 import re
@@ -14,6 +14,37 @@ KINDS = ('write', 'unasked', 'branch', 'nobody', 'copy', 'sum', 'markup', 'escap
 STORES = {'create': 'a create', 'update': 'an update', 'delete': 'a delete'}
 # How the text begins that leads within this site, or to one that the application names.
 OWN_SITE = re.compile(r'/[^/\\]|[?#]|\.{1,2}/|https?://[^/?#]+[/?#]|[A-Za-z0-9_-]+[/?#]')
+
+# What is said of each kind.
+SETS_GUARDED = (
+    'whoever sends this form sets the guarded %s of %s: no condition around it asks who the viewer is. If '
+    'somebody to whom it is hidden saves a form that was filled from it, its public value is stored over it')
+MAKES_GUARDED = (
+    'whoever sends this form makes a %s with this %s: no condition around it and no field of it asks who the viewer is')
+DECIDES = (
+    'whoever sends this form %s: no condition around it asks who the viewer is, so anybody may decide who %s')
+HIDDEN_FIELD = (
+    '%s the guarded %s of %s%s: for those to whom that field is hidden its public value decides whether this was done')
+HIDDEN_RECORD = (
+    '%s %s: for those to whom it is hidden this wasn\'t done, and what it stores isn\'t there')
+NOBODY_IN_POLICY = (
+    'this policy compares a reference with viewer and does not ask (live viewer): where nobody asks viewer is '
+    'none, and none equals none, so a stranger is shown what has none here')
+NOBODY_AROUND_WRITE = (
+    '%s depends on this comparison with viewer, and nothing asks (live viewer): where nobody asks viewer is none, and '
+    'none equals none, so a stranger may do this where this is none')
+COPIED = (
+    'the guarded %s of a %s is stored here, and this view deletes a %s too: nobody is shown the label of a record'
+    ' that is gone, so the copy reads as its public value for everybody, for good')
+SUMMED = 'the guarded %s of %s is added up here: where it is hidden its public value counts'
+RAW = (
+    'this puts a text as it is, and each page is sent as HTML, so markup in %s is markup of the page: esc, or {{ '
+    '}} in a template, escapes it')
+UNPROTECTED = 'escaping does not protect this place: %s'
+ELSEWHERE = (
+    'what is in %s may lead to another site: put a path of this one before it, as (cat "/list/" ..) does, or '
+    'compare it with those that are allowed')
+UNLINKED = 'no page of this application leads here by a link, a form or a redirect; it may be there for a script'
 
 
 class NotServed(Exception):
@@ -48,7 +79,7 @@ def found_in(data):
 
 
 def is_application(tree):
-    """Whether the items have the form of models and views, as far as the rules rest on it: the checker looks at kinds."""
+    """Whether the items have the form of models and views, as far as the rules need it. The checker looks at kinds."""
     items = tree.children[1:]
     if items and items[0].head() == 'viewer':
         items = items[1:]
@@ -272,16 +303,16 @@ def models_of(query):
 
 def hidden_field(node, model, field, does, own):
     whose = ', the viewer\'s own, which others may not be shown' if own else ''
-    return Read(node, '%s.%s' % (model, field), '%s the guarded %s of %s%s: for those to whom that field is hidden its public '
-                'value decides whether this was done' % (does, field, model, whose))
+    return Read(node, '%s.%s' % (model, field), HIDDEN_FIELD % (does, field, model, whose))
 
 
 def hidden_record(node, model, does, own):
-    whose = 'the viewer\'s own record of %s, which others may not be shown' if own else 'a record of %s, which may be hidden'
-    if does == 'goes over':
+    whose = 'a record of %s, which may be hidden'
+    if own:
+        whose = 'the viewer\'s own record of %s, which others may not be shown'
+    elif does == 'goes over':
         whose = 'the records of %s, which may be hidden'
-    return Read(node, model, '%s %s: for those to whom it is hidden this wasn\'t done, and what it stores isn\'t there' % (
-        does, whose % model))
+    return Read(node, model, HIDDEN_RECORD % (does, whose % model))
 
 
 # Who writes.
@@ -302,12 +333,9 @@ def writes(application):
             names = ' and '.join(field.value for field in fields)
             subject = ' '.join('%s.%s' % (model, field.value) for field in fields)
             if word == 'update':
-                yield Found(fields[0].start, view.place, 'write', subject, 'whoever sends this form sets the guarded %s of '
-                            '%s: no condition around it asks who the viewer is. If somebody to whom it is hidden saves a '
-                            'form that was filled from it, its public value is stored over it' % (names, model))
+                yield Found(fields[0].start, view.place, 'write', subject, SETS_GUARDED % (names, model))
             elif not any(is_viewer(one) for cell in cells for one in view.meant(cell.children[1])):
-                yield Found(fields[0].start, view.place, 'write', subject, 'whoever sends this form makes a %s with this '
-                            '%s: no condition around it and no field of it asks who the viewer is' % (model, names))
+                yield Found(fields[0].start, view.place, 'write', subject, MAKES_GUARDED % (model, names))
 
 
 def unasked(application):
@@ -316,8 +344,7 @@ def unasked(application):
         for step in view.stores():
             if not view.asks_viewer(step.conditions):
                 for node, subject, words, what in powers(application, step.node):
-                    yield Found(node.start, view.place, 'unasked', subject, 'whoever sends this form %s: no condition around '
-                                'it asks who the viewer is, so anybody may decide who %s' % (words, what))
+                    yield Found(node.start, view.place, 'unasked', subject, DECIDES % (words, what))
 
 
 def powers(application, node):
@@ -331,8 +358,8 @@ def powers(application, node):
         field = model, cell.children[0].value
         if field in application.roles and not cell.children[1].is_atom('false'):
             place = application.roles[field]
-            yield cell, '.'.join(field), 'sets the %s of a %s, which %s asks of the viewer' % (field[1], model, place), \
-                'sees what' if place.startswith('the policy') else 'may do that'
+            words = 'sets the %s of a %s, which %s asks of the viewer' % (field[1], model, place)
+            yield cell, '.'.join(field), words, 'sees what' if place.startswith('the policy') else 'may do that'
         elif word == 'update' and field in application.read_fields:
             yield cell, '.'.join(field), 'changes the %s of a %s, which the policy of %s reads' % (
                 field[1], model, application.read_fields[field]), 'sees what'
@@ -347,7 +374,9 @@ def branches(application):
             if step.node.head() != 'create':
                 sources.append(step.node.children[2])
             for source in sources:
-                what = 'finds its record by a value that' if source is step.node.children[2] else 'depends on a condition that'
+                what = 'depends on a condition that'
+                if source is step.node.children[2]:
+                    what = 'finds its record by a value that'
                 for read in application.hidden_reads(view.meant(source)):
                     places = {(source.start, read.subject), (read.node.start, read.subject)}
                     if not places & told:
@@ -361,18 +390,15 @@ def branches(application):
 def nobody(application):
     for policy in application.policies:
         for node, other in strangers(policy.condition, {}, True, frozenset(['this']), set()):
-            yield Found(node.start, policy.place(), 'nobody', text_of(other), 'this policy compares a reference with viewer '
-                        'and does not ask (live viewer): where nobody asks viewer is none, and none equals none, so a '
-                        'stranger is shown what has none here')
+            yield Found(node.start, policy.place(), 'nobody', text_of(other), NOBODY_IN_POLICY)
     for view in application.posts():
         for step in view.stores():
             facts = {fact for condition in step.conditions if condition.holds
                      for fact in facts_of(condition.node, view.values)}
             for node, holds in step.conditions:
                 for eq, other in strangers(node, view.values, holds, frozenset(), facts):
-                    yield Found(eq.start, view.place, 'nobody', text_of(other), '%s depends on this comparison with viewer, '
-                                'and nothing asks (live viewer): where nobody asks viewer is none, and none equals none, '
-                                'so a stranger may do this where this is none' % STORES[step.node.head()])
+                    yield Found(eq.start, view.place, 'nobody', text_of(other),
+                                NOBODY_AROUND_WRITE % STORES[step.node.head()])
 
 
 def facts_of(node, values):
@@ -385,8 +411,8 @@ def facts_of(node, values):
     if word == 'some':
         names = [binder.children[0].value for binder in node.children[1].children[1].children]
         facts = facts_of(node.children[1], values)
-        found = is_somebody(facts) or any('(eq %s viewer)' % name in facts or '(eq viewer %s)' % name in facts for name in names)
-        return {'(live viewer)'} if found else set()
+        are_viewer = {'(eq %s viewer)' % name for name in names} | {'(eq viewer %s)' % name for name in names}
+        return {'(live viewer)'} if is_somebody(facts) or are_viewer & facts else set()
     if node.kind == 'atom' and len(values.get(node.value, ())) == 1:
         return facts_of(values[node.value][0], {})
     return {text_of(node)}
@@ -449,10 +475,8 @@ def copies(application):
                 for node in application.guarded_reads(view.meant(cell.children[1])):
                     model, field = node.children[1].value, node.children[2].value
                     if model in deleted:
-                        yield Found(node.start, view.place, 'copy', '%s.%s' % (model, field), 'the guarded %s of a %s is '
-                                    'stored here, and this view deletes a %s too: nobody is shown the label of a record '
-                                    'that is gone, so the copy reads as its public value for everybody, for good' % (
-                                        field, model, model))
+                        yield Found(node.start, view.place, 'copy', '%s.%s' % (model, field),
+                                    COPIED % (field, model, model))
 
 
 def sums(application):
@@ -465,8 +489,7 @@ def sums(application):
             for read in application.guarded_reads(inside(node.children[2])):
                 model, field = read.children[1].value, read.children[2].value
                 if not is_known(application, model, field, node.children[1].children[2]):
-                    yield Found(read.start, place, 'sum', '%s.%s' % (model, field), 'the guarded %s of %s is added up here: '
-                                'where it is hidden its public value counts' % (field, model))
+                    yield Found(read.start, place, 'sum', '%s.%s' % (model, field), SUMMED % (field, model))
 
 
 def expressions_of(statement):
@@ -474,8 +497,8 @@ def expressions_of(statement):
     word, parts = statement.head(), statement.children[1:]
     if word in ('create', 'update'):
         return [cell.children[1] for cell in parts[2].children[1:]] + (parts[1:2] if word == 'update' else [])
-    places = {'put': (0,), 'esc': (0,), 'redirect': (0,), 'let': (1,), 'assign': (1,), 'if': (0,), 'for': (0,), 'delete': (1,)}
-    return [parts[place] for place in places.get(word, ())]
+    places = {'put': 0, 'esc': 0, 'redirect': 0, 'if': 0, 'for': 0, 'let': 1, 'assign': 1, 'delete': 1}
+    return [parts[places[word]]] if word in places else []
 
 
 def is_known(application, model, field, condition):
@@ -542,12 +565,9 @@ class Putting:
     def note(self, word, node, danger):
         subject = subject_of(node)
         if word == 'put':
-            self.found.append(Found(node.start, self.view.place, 'markup', subject, 'this puts a text as it is, and each page '
-                                    'is sent as HTML, so markup in %s is markup of the page: esc, or {{ }} in a template, '
-                                    'escapes it' % subject))
+            self.found.append(Found(node.start, self.view.place, 'markup', subject, RAW % subject))
         elif word == 'esc' and danger:
-            self.found.append(Found(node.start, self.view.place, 'escape', subject,
-                                    'escaping does not protect this place: %s' % danger))
+            self.found.append(Found(node.start, self.view.place, 'escape', subject, UNPROTECTED % danger))
 
 
 def subject_of(node):
@@ -581,9 +601,8 @@ def redirects(application):
         for step in view.steps:
             if step.node.head() == 'redirect':
                 for node in leads_away(view, step.node.children[1], ''):
-                    yield Found(node.start, view.place, 'redirect', subject_of(node), 'what is in %s may lead to another '
-                                'site: put a path of this one before it, as (cat "/list/" ..) does, or compare it with those '
-                                'that are allowed' % subject_of(node))
+                    subject = subject_of(node)
+                    yield Found(node.start, view.place, 'redirect', subject, ELSEWHERE % subject)
 
 
 def leads_away(view, node, before, seen=frozenset()):
@@ -597,7 +616,10 @@ def leads_away(view, node, before, seen=frozenset()):
         found = []
         for part in parts:
             found += leads_away(view, part, before, seen)
-            before += part.value.decode('utf-8', 'replace') if part.kind == 'text' else '' if texts_in(view, part) else '0'
+            if part.kind == 'text':
+                before += part.value.decode('utf-8', 'replace')
+            elif not texts_in(view, part):
+                before += '0'
         return found
     if node.kind == 'atom' and node.value in view.values and node.value not in view.params:
         return [one for value in view.values[node.value] if node.value not in seen
@@ -617,8 +639,7 @@ def unlinked(application):
         path = shape(view.path)
         is_missing = any(statement.head() == 'missing' for statement in view.body)
         if path != '/' and path not in led and not (path == '/*' and is_missing):
-            yield Found(view.node.children[2].start, view.place, 'unlinked', '', 'no page of this application leads here by a '
-                        'link, a form or a redirect; it may be there for a script')
+            yield Found(view.node.children[2].start, view.place, 'unlinked', '', UNLINKED)
 
 
 def shape(path):

@@ -4,8 +4,8 @@
 It never says that something is wrong, and it says nothing of what it doesn't find. The kinds are
 
   write     a post view sets a guarded field from what was sent, and nothing asks who the viewer is
-  unasked   a post view changes a field or a record by which policies or checks decide, and nothing asks who the viewer is
-  branch    a statement that stores depends on what may be hidden: what it stores is there for those alone who are shown it
+  unasked   a post view changes what a policy or a check of the viewer reads, and nothing asks who the viewer is
+  branch    a write depends on what may be hidden: what it stores is there for those alone who are shown that
   nobody    a reference is compared with viewer, and nothing asks (live viewer): none equals none, for a stranger
   copy      a guarded field is stored elsewhere by a view that deletes such a record
   sum       guarded numbers are added up: a hidden one counts as its public value
@@ -21,8 +21,8 @@ below it, indented, the reason:
   view post /setup: unasked Person.chair
       Anybody may press it, and it does something only where there is nobody.
 
-An entry speaks of all places of its kind in its view, wherever they move. An entry that nothing is found for any more is
-told. The exit status is 0 where there is nothing to look at, 1 where there is, and 2 where the application isn't one
+An entry speaks of all places of its kind in its view, wherever they move. An entry for which nothing is found any more
+is told. The exit status is 0 where there is nothing to look at, 1 where there is, and 2 where the application isn't one
 that is served or the file of what was accepted can't be read: an entry without a reason is refused."""
 import argparse
 import os
@@ -57,7 +57,8 @@ class Accepted:
             elif line.strip():
                 entry = line.rstrip()
                 if not ENTRY.fullmatch(entry):
-                    wrong.append('%s:%d: expected PLACE: KIND SUBJECT, as a warning shows it after "accepted as"' % (name, number))
+                    wrong.append('%s:%d: expected PLACE: KIND SUBJECT, as a warning shows it after "accepted as"' % (
+                        name, number))
                 elif entry in self.entries:
                     wrong.append('%s:%d: this entry is in line %d already' % (name, number, self.entries[entry][0]))
                 self.entries.setdefault(entry, (number, []))
@@ -94,7 +95,7 @@ def read_accepted(name):
 
 
 def shown(data, name, found):
-    """The lines of the places of which the same is said: where the first is and what it means, the text with a mark under
+    """The lines of places of which the same is said: where the first is and what it means, the text with a mark under
     it, where the others are, and what accepts them."""
     first, *others = found
     lines = ['%s: look at this, in the %s: %s' % (finger.where(data, name, first.start), first.place, first.words),
@@ -125,7 +126,8 @@ def main(words):
     given = options(words)
     try:
         data = read_application(given.application)
-        lines, count = looked(data, given.application, read_accepted(given.accepted or accepted_name(given.application)))
+        accepted = read_accepted(given.accepted or accepted_name(given.application))
+        lines, count = looked(data, given.application, accepted)
     except Refused as refused:
         print(refused)
         return 2
@@ -133,7 +135,8 @@ def main(words):
         print('look: %s: %s' % (fault.filename, fault.strerror))
         return 2
     except lint.NotServed:
-        print('look: %s is no application that is served; ./jac check %s says why' % (given.application, given.application))
+        print('look: %s is no application that is served; ./jac check %s says why' % (
+            given.application, given.application))
         return 2
     print('\n'.join(lines) if lines else 'look: nothing to look at' + (', %d accepted' % count if count else ''))
     return 1 if lines else 0

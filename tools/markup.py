@@ -42,8 +42,8 @@ class Markup:
                 return 'the value of %s is read as %s after its escapes were read' % (
                     self.attribute, 'a style' if self.attribute == 'style' else 'a script')
             if self.attribute in ADDRESSES and self.is_start:
-                return 'the text begins the address in %s, which may be that of another site, or begin with javascript:' \
-                    % self.attribute
+                return 'the text begins the address in %s, which may be that of another site, or a script by ' \
+                    'javascript:' % self.attribute
         return None
 
     # Each mode reads from a place in the text, and answers the place after what it read.

@@ -3,15 +3,16 @@
 
   ./jac why examples/calendar.app 8192 --db raid.db | python3 tools/why.py examples/calendar.app --db raid.db
 
-The first line is `shown LABELS`, each further one `LABEL MODEL ID GROUP because LABEL MODEL ID GROUP`: the guarded fields
-of that record, or the record itself where the group hides it, stay hidden, because with them the second label isn't
-allowed. Mostly that is the label itself, for one of two reasons, which the lines don't tell apart:
+The first line is `shown LABELS`, each further one `LABEL MODEL ID GROUP because LABEL MODEL ID GROUP`: the guarded
+fields of that record, or the record itself where the group hides it, stay hidden, because with them the second label
+isn't allowed. Mostly that is the label itself, for one of two reasons, which the lines don't tell apart:
 
   - its policy is false, or
   - its record isn't there: it was stored where another label is shown, and that one is hidden from this viewer.
 
 With --db, the file of the store, this says which, and in the second case why the other label is hidden. The file is
-copied first, and never written. Where it is another label, the first could be shown alone, and not beside what is shown."""
+copied first, and never written. Where the second label is another one, the first could be shown alone, and not beside
+what is shown."""
 import argparse
 import contextlib
 import os
@@ -58,8 +59,9 @@ class Store:
     def __init__(self, rows):
         self.rows = {}
         for record, guard in rows:
-            self.rows.setdefault(int.from_bytes(record, 'big'), []).append(
-                {(int.from_bytes(guard[at:at + 16], 'big'), guard[at + 16] == 1) for at in range(0, len(guard), LITERAL)})
+            literals = {(int.from_bytes(guard[at:at + 16], 'big'), guard[at + 16] == 1)
+                        for at in range(0, len(guard), LITERAL)}
+            self.rows.setdefault(int.from_bytes(record, 'big'), []).append(literals)
 
     @classmethod
     def of_file(cls, path):
@@ -74,7 +76,8 @@ class Store:
 
     def lacks(self, record, world):
         """Nothing where a record is there in a world; else, for each way in which it could be, what the world lacks."""
-        ways = [{(label, shown) for label, shown in row if (label in world) != shown} for row in self.rows.get(record, [])]
+        ways = [{(label, shown) for label, shown in row if (label in world) != shown}
+                for row in self.rows.get(record, [])]
         if set() in ways:
             return []
         least = [way for way in ways if not any(other < way for other in ways)]
