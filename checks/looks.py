@@ -64,6 +64,9 @@ TRAPS = {
     'checks/looks/share.app': [(18, 30, 'branch Paper')],
     'checks/looks/fire.app': [(5, 40, 'unasked Person.hr'), (7, 7, 'branch Person'), (9, 7, 'branch Person')],
     'examples/calendar.app': [(5, 38, 'nobody (get Event host this)'), (11, 41, 'markup Event.title')],
+    'checks/looks/badges.app': [
+        (3, 52, 'nobody (get Person boss this)'), (5, 79, 'nobody (get Badge of b)'), (7, 7, 'branch Person'),
+        (10, 8, 'nobody (get Badge of b)'), (13, 9, 'branch Person')],
     'checks/looks/clubs.app': [(10, 3, 'unasked Member'), (12, 3, 'unasked Member'), (14, 26, 'unasked Member.club')],
     'checks/looks/login.app': [(3, 48, 'redirect to'), (4, 40, 'redirect Person.home'), (5, 59, 'redirect to'),
                                (6, 54, 'redirect to')],
@@ -79,9 +82,7 @@ TRAPS = {
 }
 EXAMPLES = {
     'examples/agenda.app': [
-        (7, 38, 'nobody (get Event host this)'), (19, 9, 'markup Event.title'), (22, 35, 'branch Event.title'),
-        (27, 40, 'markup Note.body'), (30, 7, 'nobody (get Event host event)'),
-        (35, 7, 'nobody (get Event host event)')],
+        (19, 9, 'markup Event.title'), (22, 35, 'branch Event.title'), (27, 40, 'markup Note.body')],
     'examples/courses.app': [
         (14, 9, 'markup Student.name'), (14, 58, 'markup Course.title'), (18, 9, 'markup Course.title'),
         (23, 8, 'markup Course.title'), (27, 19, 'markup Student.name'), (34, 9, 'markup Student.name'),

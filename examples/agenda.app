@@ -4,7 +4,7 @@
 
  (model Event (fields (title text) (host (ref User)) (open bool))
   (group (guards (title "private"))
-   (policy (or (get Event open this) (eq (get Event host this) viewer)))))
+   (policy (or (get Event open this) (and (live viewer) (eq (get Event host this) viewer))))))
 
  (model Note (fields (body text)))
 
@@ -27,11 +27,11 @@
   (for (from ((n Note)) true key) (put (get Note body n)) (put "\n")))
 
  (view post "/rename" (params (event (ref Event)) (title text))
-  (if (eq (get Event host event) viewer)
+  (if (and (live viewer) (eq (get Event host event) viewer))
    ((update Event event (set (title title))))
    ((put "not your event"))))
 
  (view post "/drop" (params (event (ref Event)))
-  (if (eq (get Event host event) viewer)
+  (if (and (live viewer) (eq (get Event host event) viewer))
    ((delete Event event) (redirect "/list"))
    ((missing) (put "no such event of yours")))))

@@ -301,6 +301,10 @@ def models_of(query):
     return [binder.children[1].value for binder in query.children[1].children]
 
 
+def names_of(query):
+    return [binder.children[0].value for binder in query.children[1].children]
+
+
 def hidden_field(node, model, field, does, own):
     whose = ', the viewer\'s own, which others may not be shown' if own else ''
     return Read(node, '%s.%s' % (model, field), HIDDEN_FIELD % (does, field, model, whose))
@@ -395,8 +399,10 @@ def nobody(application):
         for step in view.stores():
             facts = {fact for condition in step.conditions if condition.holds
                      for fact in facts_of(condition.node, view.values)}
+            loops = [node for node, _ in step.conditions if node.head() == 'from']
+            certain = frozenset(name for loop in loops for name in names_of(loop))
             for node, holds in step.conditions:
-                for eq, other in strangers(node, view.values, holds, frozenset(), facts):
+                for eq, other in strangers(node, view.values, holds, certain, facts):
                     yield Found(eq.start, view.place, 'nobody', text_of(other),
                                 NOBODY_AROUND_WRITE % STORES[step.node.head()])
 
@@ -409,8 +415,7 @@ def facts_of(node, values):
     if word == 'from':
         return facts_of(node.children[2], values)
     if word == 'some':
-        names = [binder.children[0].value for binder in node.children[1].children[1].children]
-        facts = facts_of(node.children[1], values)
+        names, facts = names_of(node.children[1]), facts_of(node.children[1], values)
         are_viewer = {'(eq %s viewer)' % name for name in names} | {'(eq viewer %s)' % name for name in names}
         return {'(live viewer)'} if is_somebody(facts) or are_viewer & facts else set()
     if node.kind == 'atom' and len(values.get(node.value, ())) == 1:
@@ -434,6 +439,8 @@ def strangers(node, values, holds, certain, facts):
     word, parts = node.head(), node.children[1:]
     if word == 'eq':
         yield from compared(node, holds, certain, facts)
+        for part in (part for part in parts if part.head() == 'count'):
+            yield from strangers(part.children[1], values, not holds, certain, facts)
         return
     if node.kind == 'atom' and len(values.get(node.value, ())) == 1:
         yield from strangers(values[node.value][0], {}, holds, certain, facts)
@@ -444,14 +451,15 @@ def strangers(node, values, holds, certain, facts):
         for part in parts:
             yield from strangers(part, values, holds, certain, sure)
     elif word == 'from':
-        names = frozenset(binder.children[0].value for binder in parts[0].children)
-        yield from strangers(parts[1], values, holds, certain | names, facts)
+        yield from strangers(parts[1], values, holds, certain.union(names_of(node)), facts)
     elif word == 'some':
         yield from strangers(parts[0], values, holds, certain, facts)
     elif word == 'lt':
-        for part in parts:
-            for query in (one for one in inside(part) if one.head() == 'from'):
-                yield from strangers(query, values, holds, certain, facts)
+        for query in (one for part in parts for one in inside(part) if one.head() == 'from'):
+            yield from strangers(query, values, holds, certain, facts)
+    elif word == 'pick':
+        for part, is_so in ((parts[0], True), (parts[0], False), (parts[1], holds), (parts[2], holds)):
+            yield from strangers(part, values, is_so, certain, facts)
 
 
 def compared(node, holds, certain, facts):
