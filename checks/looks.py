@@ -9,6 +9,7 @@ surprised by, worked cases, examples, and texts below. Of three audits lines are
 the rows of a store are written down, with what is said of them. Where the program is named, it makes these lines and
 rows too, and the same is said of them; where it isn't, that part is skipped."""
 import contextlib
+import glob
 import io
 import os
 import re
@@ -21,6 +22,7 @@ sys.dont_write_bytecode = True
 TOP = os.path.dirname(os.path.dirname(os.path.abspath(__file__)))
 sys.path.insert(0, os.path.join(TOP, 'tools'))
 import audit                                                                # noqa: E402
+import lint                                                                 # noqa: E402
 import look                                                                 # noqa: E402
 import proved                                                               # noqa: E402
 import why                                                                  # noqa: E402
@@ -430,6 +432,28 @@ def of_refusals(folder):
         yield None if status == want and out and 'Traceback' not in out else 'look.py %s: %d, %s' % (words, status, out)
 
 
+def of_commands():
+    """The exit status of the command itself."""
+    for word, want in (('checks/looks/share.app', 1), ('examples/hello.app', 0), ('examples/none.app', 2)):
+        status = subprocess.run([sys.executable, 'tools/look.py', word], cwd=TOP, stdout=subprocess.DEVNULL,
+                                check=False).returncode
+        yield None if status == want else 'look.py %s: status %d' % (word, status)
+
+
+def of_all_cases():
+    """Of each application in checks/cases, served or not: it is read, or said to be none."""
+    for path in sorted(glob.glob(os.path.join(TOP, 'checks', 'cases', '*.case'))):
+        with open(path, encoding='utf-8', newline='') as file:
+            texts = re.findall(r'(?ms)^== file [^\n]*\n(\(app.*?)(?=^== )', file.read())
+        try:
+            for text in texts:
+                with contextlib.suppress(lint.NotServed):
+                    lint.found_in(text.encode())
+            yield None
+        except Exception as fault:
+            yield '%s: %r' % (path, fault)
+
+
 def of_audits():
     for words, parts in AUDITS:
         out = run(audit, words)[1]
@@ -493,7 +517,8 @@ def of_program(program):
 def main():
     with tempfile.TemporaryDirectory() as folder:
         results = [*of_texts(folder), *(looked(name, name, want) for name, want in {**TRAPS, **EXAMPLES}.items()),
-                   *of_large(), *of_accepted(folder), *of_refusals(folder), *of_audits(), *of_reasons()]
+                   *of_large(), *of_accepted(folder), *of_refusals(folder), *of_commands(), *of_all_cases(),
+                   *of_audits(), *of_reasons()]
     if sys.argv[1:]:
         results += of_program(proved.program(sys.argv[1]))
     for wrong in filter(None, results):

@@ -72,7 +72,7 @@ def found_in(data):
             raise NotServed
         application = Application(tree)
     except (finger.TreeFault, finger.Fault, finger.FormFault, finger.CheckFault, IndexError, KeyError, AttributeError,
-            TypeError, RecursionError):
+            TypeError, ValueError, RecursionError):
         raise NotServed from None
     found = [one for rule in RULES for one in rule(application)]
     return sorted(set(found))
