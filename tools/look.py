@@ -75,8 +75,8 @@ class Accepted:
 
 
 def read_application(name):
-    with open(name, 'rb') as file:
-        return file.read()
+    """The text of the application in a file or a folder."""
+    return assemble.read_or_exit(name)
 
 
 def accepted_name(application):

@@ -147,14 +147,9 @@ class Why:
                             for label, shown in sorted(way))
 
 
-def read_application(name):
-    with open(name, 'rb') as file:
-        return file.read()
-
-
 def options(words):
     parser = argparse.ArgumentParser(description=__doc__, formatter_class=argparse.RawDescriptionHelpFormatter)
-    parser.add_argument('application', help='the file of the application')
+    parser.add_argument('application', help="the application's file or folder")
     parser.add_argument('lines', nargs='?', help='the file of the lines; else they are read from standard input')
     parser.add_argument('--db', metavar='FILE', help='the file of the store that `jac why` was asked about')
     return parser.parse_args(words)
@@ -163,7 +158,7 @@ def options(words):
 def main(words):
     given = options(words)
     try:
-        data = read_application(given.application)
+        data = assemble.read_or_exit(given.application)
         store = Store.of_file(given.db) if given.db else None
         with open(given.lines, encoding='utf-8', errors='replace') if given.lines else sys.stdin as file:
             lines = file.read().splitlines()
