@@ -62,9 +62,11 @@ put_finger() {
 }
 
 [ "${1-} ${2-}" != 'walk --help' ] || exec python3 "$top/tools/walk.py" --help
+[ "${1-} ${2-}" != 'dev --help' ] || exec python3 "$top/tools/dev.py" '' --help
 choose
 choose_command "$@"
 case ${1-} in
+    dev) exec python3 "$top/tools/dev.py" "${program-}" "${@:2}" ;;
     check | replay | dump | demo | upgrade | why) run_to_end "$@" ;;
     serve)
         [ -n "${JAC_PROVED-}" ] || put_finger "$@"

@@ -1,0 +1,439 @@
+#!/usr/bin/env python3
+"""Serves an application while it is written: at each save the text is checked and given a second look, and the new
+text is served in the place of the old one. Requests that come meanwhile wait, and none is refused. `./jac dev` starts it,
+and gives it the program as its first word. docs/USING.md, "Writing an application", says what the browser shows.
+
+It is for writing and not for serving: it listens on 127.0.0.1 alone, lets whoever reaches it be anybody of the sessions
+file, and tells which labels are hidden."""
+import argparse
+import contextlib
+import os
+import shutil
+import signal
+import socket
+import sqlite3
+import subprocess
+import sys
+import tempfile
+import threading
+import time
+
+sys.dont_write_bytecode = True
+sys.path.insert(0, os.path.dirname(os.path.abspath(__file__)))
+import dev_proxy                                                            # noqa: E402
+import finger                                                               # noqa: E402
+import schema                                                               # noqa: E402
+
+TOOLS = os.path.dirname(os.path.abspath(__file__))
+HOST = '127.0.0.1'
+EVERY = 0.15            # seconds between two looks at the files
+CONNECTIONS = 1000000   # after which a run of `serve` ends, and another one begins
+TRIES = 5               # ports that are tried for a run of `serve`
+
+
+class Refused(Exception):
+    """Why a text isn't served: a headline, what there is to say of it, and whether a new store would help."""
+
+    def __init__(self, headline, details='', is_schema=False):
+        super().__init__(headline)
+        self.headline, self.details, self.is_schema = headline, details, is_schema
+        self.when = time.strftime('%H:%M:%S')
+
+
+class Ended(Exception):
+    """A run of `serve` ended before it listened."""
+
+    def __init__(self, status, line, told):
+        super().__init__(line)
+        self.status, self.line, self.told = status, line, told
+
+
+def tell(text):
+    print('%s dev: %s' % (time.strftime('%H:%M:%S'), text), file=sys.stderr, flush=True)
+
+
+def output_of(words):
+    """The status of a command and what it put, on standard output and on standard error."""
+    done = subprocess.run(words, stdin=subprocess.DEVNULL, stdout=subprocess.PIPE, stderr=subprocess.PIPE, check=False)
+    return done.returncode, done.stdout.decode('utf-8', 'replace').rstrip('\n'), done.stderr.decode('utf-8', 'replace').rstrip('\n')
+
+
+class Source:
+    """The application's file or folder, and the sessions' file: what is watched."""
+
+    def __init__(self, path, sessions):
+        self.path, self.sessions = path, sessions
+
+    def files(self):
+        found = [self.sessions] if self.sessions else []
+        if not os.path.isdir(self.path):
+            return found + [self.path]
+        for folder, folders, names in os.walk(self.path):
+            folders[:] = sorted(name for name in folders if not name.startswith('.'))
+            found += [os.path.join(folder, name) for name in sorted(names) if not name.startswith('.')]
+        return found
+
+    def state(self):
+        """What differs once one of the files was saved."""
+        state = []
+        for path in self.files():
+            try:
+                found = os.stat(path)
+                state.append((path, found.st_mtime_ns, found.st_size, found.st_ino))
+            except OSError:
+                state.append((path, None))
+        return state
+
+    def read(self):
+        """The text of the application as it is now."""
+        if os.path.isdir(self.path):
+            return self.assembled()
+        try:
+            with open(self.path, 'rb') as file:
+                return file.read()
+        except OSError as fault:
+            raise Refused('read fault: %s' % self.path, '%s: %s' % (self.path, fault.strerror)) from None
+
+    def assembled(self):
+        tool = os.path.join(TOOLS, 'assemble.py')
+        if not os.path.exists(tool):
+            raise Refused('%s is a folder' % self.path, 'an application is one file')
+        done = subprocess.run([sys.executable, tool, self.path], stdin=subprocess.DEVNULL, stdout=subprocess.PIPE,
+                              stderr=subprocess.PIPE, check=False)
+        if done.returncode:
+            raise Refused('the folder %s can\'t be put together' % self.path, done.stderr.decode('utf-8', 'replace'))
+        return done.stdout
+
+
+class Text:
+    """A text of the application that is right, in a file of its own."""
+
+    def __init__(self, path, data, summary):
+        self.path, self.data, self.summary = path, data, summary
+        self.when, self.models = time.strftime('%H:%M:%S'), schema.of_application(data)
+
+
+class Child:
+    """A run of `serve`, on a port of its own."""
+
+    def __init__(self, words, room):
+        self.audit = os.path.join(room, 'audit')
+        for attempt in range(TRIES):
+            try:
+                return self.start(words, room)
+            except Ended as ended:
+                # another program may have taken the port in between
+                if ended.status != 8 or attempt == TRIES - 1:
+                    raise
+
+    def start(self, words, room):
+        with socket.socket() as door:
+            door.bind((HOST, 0))
+            self.port = door.getsockname()[1]
+        self.read = os.path.getsize(self.audit) if os.path.exists(self.audit) else 0
+        out, told = os.path.join(room, 'out'), os.path.join(room, 'told')
+        with open(out, 'wb') as output, open(told, 'wb') as error:
+            self.run = subprocess.Popen([part % {'port': self.port, 'audit': self.audit} for part in words],
+                                        stdin=subprocess.DEVNULL, stdout=output, stderr=error, start_new_session=True)
+        while True:
+            ended = self.run.poll() is not None
+            with open(told, encoding='utf-8', errors='replace') as file:
+                text = file.read()
+            if 'listening on ' in text and not ended:
+                return
+            if ended:
+                with open(out, encoding='utf-8', errors='replace') as file:
+                    raise Ended(self.run.returncode, file.read().rstrip('\n'), text.rstrip('\n'))
+            time.sleep(0.005)
+
+    def ask(self, request):
+        """The reply's bytes, and the audit's line of it."""
+        with socket.create_connection((HOST, self.port), 600) as line:
+            line.sendall(request)
+            parts = []
+            while parts[-1:] != [b'']:
+                parts.append(line.recv(65536))
+        with open(self.audit, 'rb') as file:
+            file.seek(self.read)
+            lines = file.read()
+        self.read += len(lines)
+        return b''.join(parts), lines.decode('ascii', 'replace').rstrip('\n').rpartition('\n')[2]
+
+    def is_over(self):
+        return self.run.poll() is not None
+
+    def stop(self):
+        self.run.terminate()
+        self.run.wait()
+
+
+class Dev:
+    """What is served, and what was refused. `door` is held by whoever asks the program or exchanges it."""
+    faults = OSError, Ended     # of `ask`
+
+    def __init__(self, options, room):
+        self.program, self.port, self.room = options.program, options.port, room
+        self.source = Source(options.app, options.sessions)
+        self.sessions, self.is_kept = options.sessions, options.db is not None
+        self.store = options.db or os.path.join(room, 'store.db')
+        self.door, self.work, self.asking = threading.Lock(), threading.Lock(), threading.Lock()
+        self.text = self.child = self.refused = self.waiting = None
+        self.looks, self.note, self.kept = '', '', []
+        self.version, self.texts, self.is_over = 0, 0, False
+
+    # a save
+
+    def take(self):
+        """Serves the application as it is now, or keeps what is wrong with it."""
+        with self.work:
+            try:
+                text = self.checked(self.source.read())
+                self.exchange(text)
+            except Refused as refused:
+                self.refused = refused
+                tell('refused: ' + refused.headline)
+                if refused.details:
+                    print(refused.details, file=sys.stderr, flush=True)
+            else:
+                self.refused = None
+                self.looks = self.looked()
+                tell('%s%s' % (text.summary, '; places to look at: %d' % self.count_looks() if self.looks else ''))
+            self.version += 1
+
+    def checked(self, data):
+        self.texts += 1
+        path = os.path.join(self.room, 'text-%d' % self.texts)
+        with open(path, 'wb') as file:
+            file.write(data)
+        status, line, _ = output_of([self.program, 'check', path])
+        if status == 0:
+            return Text(path, data, line)
+        fault = finger.finger(data, line)
+        details = finger.shown_fault(data, self.source.path, fault) if fault else ''
+        raise Refused(line.replace(path, self.source.path), details)
+
+    def looked(self):
+        """What the second look says of the application, or nothing."""
+        _, out, told = output_of([sys.executable, os.path.join(TOOLS, 'look.py'), self.source.path])
+        return '' if out.startswith('look: nothing') else out or told
+
+    def count_looks(self):
+        return max(1, self.looks.count(': look at this'))
+
+    def exchange(self, text):
+        """Serves this text from now on. Where that doesn't go, the one before is served as it was."""
+        with self.door:
+            if self.is_over:
+                return
+            self.stop()
+            kept = None
+            try:
+                kept = self.upgraded(text)
+                self.child = self.started(text)
+            except (Refused, Ended) as fault:
+                if kept:
+                    self.put_back(kept)
+                self.start_again()
+                if isinstance(fault, Refused):
+                    self.waiting = text if fault.is_schema else None
+                    raise
+                raise Refused(fault.line.replace(text.path, self.source.path), fault.told) from None
+            if self.text:
+                os.remove(self.text.path)
+            self.text, self.waiting = text, None
+
+    def started(self, text):
+        words = [self.program, 'serve', '--lazy', '--db', self.store.replace('%', '%%'), '--audit', '%(audit)s']
+        words += ['--sessions', self.sessions.replace('%', '%%')] if self.sessions else []
+        return Child([*words, '--', text.path.replace('%', '%%'), '%(port)s', str(CONNECTIONS)], self.room)
+
+    def start_again(self):
+        """The text that was served is served on; where that doesn't go, the next request tries it again."""
+        if self.text:
+            with contextlib.suppress(Ended):
+                self.child = self.started(self.text)
+
+    def stop(self):
+        if self.child:
+            self.child.stop()
+            self.child = None
+
+    # the store
+
+    def upgraded(self, text):
+        """Brings the store to the text's models, where they extend its own, and returns the copy that is kept."""
+        stored = schema.of_store(self.store)
+        if stored is None:
+            return None
+        old = schema.of_text(stored)
+        lack = schema.first_lack(old, text.models)
+        if lack:
+            raise Refused('the store can\'t be upgraded to this text: %s' % lack, is_schema=True, details=(
+                'An upgrade adds models, fields and groups after those that are there. Leave the old part as it is and '
+                'add another, or begin with a new store.'))
+        if schema.is_same(old, text.models):
+            return None
+        kept, bridge = self.copied(), os.path.join(self.room, 'old')
+        with open(bridge, 'w', encoding='utf-8') as file:
+            file.write(schema.application(old))
+        status, line, told = output_of([self.program, 'upgrade', '--db', self.store, '--', bridge, text.path])
+        if status:
+            self.put_back(kept)
+            raise Refused('the upgrade of the store failed: ' + line, told)
+        self.kept.append(kept)
+        self.note = '%s, since %s. The store as it was is kept as %s' % (
+            line, schema.first_addition(old, text.models), kept)
+        tell(self.note)
+        return kept
+
+    def free_name(self):
+        number = 1
+        while os.path.exists('%s.before-%d' % (self.store, number)):
+            number += 1
+        return '%s.before-%d' % (self.store, number)
+
+    def copied(self):
+        """A copy of the store, which nobody serves meanwhile."""
+        kept = self.free_name()
+        source, made = sqlite3.connect(self.store), sqlite3.connect(kept)
+        source.backup(made)
+        source.close()
+        made.close()
+        return kept
+
+    def put_back(self, kept):
+        """The store is what it was before the upgrade."""
+        if kept in self.kept:
+            self.kept.remove(kept)
+            self.note = ''
+        for end in '-wal', '-shm':
+            if os.path.exists(self.store + end):
+                os.remove(self.store + end)
+        os.replace(kept, self.store)
+
+    def renew(self):
+        """Sets the store aside, and serves the text that waits over a new one."""
+        with self.work:
+            text = self.waiting
+            if text is None:
+                return
+            with self.door:
+                self.stop()
+                kept = self.copied()
+                for path in self.store, self.store + '-wal', self.store + '-shm':
+                    if os.path.exists(path):
+                        os.remove(path)
+            try:
+                self.exchange(text)
+            except Refused as refused:
+                self.refused = refused
+            else:
+                self.kept.append(kept)
+                self.refused, self.looks = None, self.looked()
+                self.note = 'a new store; the one before is kept as %s' % kept
+                tell(self.note)
+            self.version += 1
+
+    def copy_for_reading(self):
+        """A copy of the store as it is between two requests, for commands that read it, and the text that goes with it."""
+        copy = os.path.join(self.room, 'copy')
+        with self.door:
+            for end in '', '-wal':
+                if os.path.exists(copy + end):
+                    os.remove(copy + end)
+                if os.path.exists(self.store + end):
+                    shutil.copyfile(self.store + end, copy + end)
+            shutil.copyfile(self.text.path, copy + '-text')
+        return copy, copy + '-text'
+
+    # a request
+
+    def ask(self, request):
+        """The reply, the audit's line, and the text that was asked; or None where there is no text yet."""
+        with self.door:
+            if self.text is None or self.is_over:
+                return None
+            if self.child is None or self.child.is_over():
+                self.child = self.started(self.text)
+            reply, line = self.child.ask(request)
+            if not reply:
+                raise ConnectionError('the connection ended without a reply')
+            return reply, line, self.text
+
+    def why(self, viewer):
+        """What `why` says of this viewer over the store as it is, in the program's lines and in words."""
+        with self.asking:
+            copy, text = self.copy_for_reading()
+            status, lines, told = output_of([self.program, 'why', '--db', copy, '--', text, viewer])
+            if status:
+                return lines, told
+            with open(copy + '-why', 'w', encoding='utf-8') as file:
+                file.write(lines + '\n')
+            words = output_of([sys.executable, os.path.join(TOOLS, 'why.py'), text, copy + '-why'])[1]
+            return lines, words.replace(text, self.source.path)
+
+    def close(self):
+        with self.door:
+            self.is_over = True
+            self.stop()
+
+
+def watch(dev):
+    """Takes the application at each save, once its files stay as they are."""
+    seen = None
+    while True:
+        state = dev.source.state()
+        if state != seen:
+            time.sleep(EVERY / 2)
+            if dev.source.state() == state:
+                seen = state
+                dev.take()
+        time.sleep(EVERY)
+
+
+def port_of(word):
+    if not word.isdigit() or not 1 <= int(word) <= 65535:
+        raise argparse.ArgumentTypeError('a port is a number from 1 to 65535')
+    return int(word)
+
+
+def options_of(words):
+    parser = argparse.ArgumentParser(prog='jac dev', description=__doc__, allow_abbrev=False,
+                                     formatter_class=argparse.RawDescriptionHelpFormatter)
+    parser.add_argument('app', metavar='APP', help='the application')
+    parser.add_argument('port', metavar='PORT', type=port_of, help='where the browser finds it, on this machine alone')
+    parser.add_argument('--db', metavar='FILE', help='the store; else one is made, and removed at the end')
+    parser.add_argument('--sessions', metavar='FILE',
+                        help='the sessions; of a folder its own file `sessions`, if it has one')
+    options = parser.parse_args(words[1:])
+    options.program = os.path.abspath(words[0])
+    beside = os.path.join(options.app, 'sessions')
+    if options.sessions is None and os.path.isfile(beside):
+        options.sessions = beside
+    return options
+
+
+def main(words):
+    options = options_of(words)
+    for number in signal.SIGTERM, signal.SIGHUP, signal.SIGINT:
+        signal.signal(number, lambda number, _: sys.exit(128 + number))
+    with tempfile.TemporaryDirectory(prefix='jac-dev-') as room:
+        dev = Dev(options, room)
+        try:
+            server = dev_proxy.listen(dev, HOST, options.port)
+        except OSError as fault:
+            sys.exit('dev: port %d: %s' % (options.port, fault.strerror))
+        try:
+            tell('for writing, not for serving: http://%s:%d/ shows %s, on this machine alone; Ctrl-C ends it' % (
+                HOST, options.port, options.app))
+            threading.Thread(target=server.serve_forever, daemon=True).start()
+            watch(dev)
+        finally:
+            dev.close()
+            server.server_close()
+            if dev.is_kept and dev.kept:
+                tell('kept: ' + ' '.join(dev.kept))
+
+
+if __name__ == '__main__':
+    main(sys.argv[1:])

@@ -1,0 +1,140 @@
+"""What a store keeps of its application: its models, with their fields and groups, as the store's table `meta` has them.
+Reads them from a store and from an application, tells the first difference, and whether `upgrade` leads from the one to
+the other."""
+import os
+import sqlite3
+import sys
+
+sys.dont_write_bytecode = True
+sys.path.insert(0, os.path.dirname(os.path.abspath(__file__)))
+import finger                                                               # noqa: E402
+
+# what an application of a schema alone gives as public values
+PUBLIC = {'int': '0', 'text': '""', 'bool': 'false'}
+
+
+class Model:
+    """`groups` has for each group the fields that it guards, or the word `hides`."""
+
+    def __init__(self, name, nested, fields, groups):
+        self.name, self.nested, self.fields, self.groups = name, nested, fields, groups
+
+
+def kind_text(node):
+    return node.value if node.kind == 'atom' else '(ref %s)' % node.children[1].value
+
+
+def fields_of(node):
+    return [(field.children[0].value, kind_text(field.children[1])) for field in node.children[1:]]
+
+
+def of_tree(tree):
+    """The models of an application's tree."""
+    return [Model(model.children[1].value, finger.is_nested(model), fields_of(finger.fields_in(model)),
+                  ['hides' if finger.hides(group) else tuple(guard.children[0].value for guard in finger.guards_in(group))
+                   for group in finger.groups_in(model)])
+            for model in tree.children if model.head() == 'model']
+
+
+def of_application(data):
+    return of_tree(finger.read_tree(data, list(range(len(data) + 1))))
+
+
+def of_text(text):
+    """The models of a schema's text, `(schema (model NAME (fields ..) (groups ..)) ..)`."""
+    data = text.encode()
+    models = []
+    for model in finger.read_tree(data, list(range(len(data) + 1))).children[1:]:
+        groups = ['hides' if group.kind == 'atom' else tuple(field.value for field in group.children)
+                  for group in model.children[-1].children[1:]]
+        models.append(Model(model.children[1].value, model.children[2].is_atom('nested'),
+                            fields_of(model.children[-2]), groups))
+    return models
+
+
+def of_store(path):
+    """The schema's text of a store that is in no other program's hands, or None where there is none to be read."""
+    if not os.path.isfile(path):
+        return None
+    try:
+        store = sqlite3.connect('file:%s?mode=rw' % path.replace('%', '%25').replace('?', '%3f').replace('#', '%23'),
+                                uri=True, timeout=0)
+        try:
+            found = store.execute('SELECT schema FROM meta').fetchall()
+        finally:
+            store.close()
+    except sqlite3.Error:
+        return None
+    return found[0][0] if len(found) == 1 and isinstance(found[0][0], str) else None
+
+
+def group_text(group):
+    return 'hides its records' if group == 'hides' else 'guards ' + ', '.join(group)
+
+
+def first_lack(old, new):
+    """The first part of the old models that the new ones lack or have otherwise, in words, or None where they extend them."""
+    for place, model in enumerate(old):
+        if place >= len(new):
+            return 'the model %s is there no more' % model.name
+        other = new[place]
+        if other.name != model.name:
+            return 'model %d is %s where it was %s' % (place + 1, other.name, model.name)
+        if other.nested != model.nested:
+            return 'the model %s is %s' % (model.name, 'nested where it was not' if other.nested else 'not nested where it was')
+        lack = first_lack_in(model, other)
+        if lack:
+            return lack
+    return None
+
+
+def first_lack_in(old, new):
+    """The same of two models of one name."""
+    for place, (name, kind) in enumerate(old.fields):
+        if place >= len(new.fields):
+            return 'the field %s of %s is there no more' % (name, old.name)
+        if new.fields[place][0] != name:
+            return 'field %d of %s is %s where it was %s' % (place + 1, old.name, new.fields[place][0], name)
+        if new.fields[place][1] != kind:
+            return 'the field %s of %s is %s where it was %s' % (name, old.name, new.fields[place][1], kind)
+    for place, group in enumerate(old.groups):
+        if place >= len(new.groups):
+            return 'the group of %s that %s is there no more' % (old.name, group_text(group))
+        if new.groups[place] != group:
+            return 'group %d of %s %s where it was one that %s' % (
+                place + 1, old.name, group_text(new.groups[place]), group_text(group))
+    return None
+
+
+def first_addition(old, new):
+    """The first part that the new models have beyond the old ones, which they extend."""
+    for model, other in zip(old, new):
+        for name, _ in other.fields[len(model.fields):]:
+            return 'the field %s of %s is new' % (name, model.name)
+        for group in other.groups[len(model.groups):]:
+            return 'the group of %s that %s is new' % (model.name, group_text(group))
+    for other in new[len(old):]:
+        return 'the model %s is new' % other.name
+    return None
+
+
+def is_same(old, new):
+    return first_lack(old, new) is None and first_addition(old, new) is None
+
+
+def guard_text(model, field):
+    kind = dict(model.fields)[field]
+    return '(%s %s)' % (field, PUBLIC.get(kind) or '(none %s)' % kind[5:-1])
+
+
+def model_text(model):
+    groups = [' (group hides (policy false))' if group == 'hides' else
+              ' (group (guards %s) (policy false))' % ' '.join(guard_text(model, field) for field in group)
+              for group in model.groups]
+    return '(model %s%s (fields %s)%s)' % (
+        model.name, ' nested' if model.nested else '', ' '.join('(%s %s)' % field for field in model.fields), ''.join(groups))
+
+
+def application(models):
+    """An application that has this schema and nothing else: what `upgrade` takes as the old one."""
+    return '(app\n %s)\n' % '\n '.join(map(model_text, models))
