@@ -48,12 +48,13 @@ choose_command() {
     done
 }
 
-# A command that ends by itself. Where it refuses an application, standard error has the place, with a mark under it.
+# A command that ends by itself. Where it refuses its words, an application or a store, standard error says which word, and
+# has the place, with a mark under it, or the first difference.
 run_to_end() {
     [ -z "${JAC_PROVED-}" ] || exec "${command[@]}" "$@"
     local status=0
     "${command[@]}" "$@" || status=$?
-    [ $status -ne 2 ] || put_finger "$@"
+    case $status in 1 | 2 | 9 | 11) put_finger "$@" ;; esac
     exit $status
 }
 
@@ -76,5 +77,5 @@ case ${1-} in
         shift
         exec python3 "$top/tools/walk.py" --program "$program" "$@"
         ;;
-    *) exec "$program" "$@" ;;
+    *) run_to_end "$@" ;;
 esac

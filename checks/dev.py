@@ -198,7 +198,7 @@ def saves():
             run.saved(WIDER)
             yield has('a new field', run.page('/dev//'), 'the field town of User is new', 'store.db.before-1')
             run.saved(SECOND)
-            yield has('a field is taken out', run.page(), 'the field town of User is there no more', 'Edition two',
+            yield has('a field is taken out', run.page(), 'the field town of User is missing', 'Edition two',
                       'Begin with a new store')
             run.saved(WIDER)
             run.saved(SESSIONS + 'eve 8192\n', 'sessions')
@@ -225,7 +225,7 @@ def stores():
         run = Writer(folder, ('--db', 'store.db'), APP)
         page = run.ask('GET', '/')
         yield expect('a store of other models', page[0], 503)
-        yield has('a store of other models', page[2], 'the field town of User is there no more')
+        yield has('a store of other models', page[2], 'the field town of User is missing')
         yield expect('a new store', run.ask('POST', '/dev//new-store', {})[0], 303)
         yield has('a new store', run.page(token='ann'), 'Edition one', but=['<p>kept</p>'])
         yield expect('the store before', sorted(name for name in os.listdir(folder) if 'before' in name),

@@ -180,9 +180,141 @@ def twice_named(data, tree):
             yield with_text(data, at, at, b' ' + data[field.start:field.end]), at + 2
 
 
+# What is said of a text in the reader's words: the program's line has its code, and these have the place and the words.
+
+VIEW = '(app (model User (fields (name text) (age int)))\n (view get "/" (params (j int))\n  %s))'
+TAG = VIEW % '(template "%s")'
+MESSAGES = [
+    ('(app (view get "/" (params) (put "a"))\n (model User (fields (name text))))', '2:2', 'models come before views'),
+    ('(app (model User (fields)) (viewer User))', '1:28', '(viewer MODEL) comes first'),
+    (VIEW % '(if true (put "a") (put "b"))', '3:12', 'a branch is a list of statements: ((put ..))'),
+    (VIEW % '(if true () (esc "b"))', '3:15', 'a branch is a list of statements: ((esc ..))'),
+    (VIEW % '(let x 1 ((put "a")))', '3:12', 'the statements of a let stand beside each other'),
+    (TAG % '{% if true %}a{% end %}', '3:17', 'a tag holds one form in brackets: {% (if truth) %}'),
+    (TAG % 'a{% for u in users %}a{% end %}', '3:18', 'a tag holds one form in brackets: {% (for (from '),
+    (TAG % '{% (if true) %}a{% elif false %}b{% end %}', '3:33',
+     'a tag holds one form in brackets: {% else %}{% (if truth) %} .. {% end %}{% end %}'),
+    (TAG % '{% (if true) %}a{% endif %}', '3:30', 'each block ends alike: {% end %}'),
+    (TAG % '{{ j.title }}', '3:17', 'a tag holds one form in brackets, or one word: {{ (get MODEL title j) }}'),
+    (TAG % '{{ j | upper }}', '3:17', 'there are no filters'),
+    (VIEW % '(put (not))', '3:8', 'here are no operands'),
+    (VIEW % '(put (exists (from ((u User)) true key)))', '3:8', 'there is no expression exists; is it some?'),
+    (VIEW % '(put (length j))', '3:8', 'there is no expression length; is it count?'),
+    (VIEW % '(put (gt j 1))', '3:8', 'is it lt with its operands turned round?'),
+    (VIEW % '(put (frobnicate j))', '3:8', 'there is no expression frobnicate; the forms'),
+    (VIEW % '(print "a")', '3:3', 'there is no statement print; is it put?'),
+    (VIEW % '(putt "a")', '3:3', 'there is no statement putt; is it put?'),
+    (VIEW % '(put (if true 1 2))', '3:8', 'there is no expression if, which is a form of statements; is it pick?'),
+    ('(app (model User (fields (name string))))', '1:32', 'here is the word string; is it text?'),
+    ('(app\n (view get "/" (params)\n  (put "a"))\n  (put "b"))\n (view get "/b" (params)))', '3:12',
+     'this bracket seems to be one too many'),
+    ('(app\n (view get "/" (params)\n  (if true\n   ((put "a")))\n    ((put "b")))\n (view get "/b" (params))))', '4:15',
+     'this bracket seems to be one too many'),
+    ('(app\n (view get "/" (params)\n  (put "a")))\n (view get "/b" (params)))', '3:13',
+     'this bracket closes the application, and something follows it: the item before, that of line 2, has a bracket too many'),
+]
+# Further faults: the places at which something is said, in their order.
+FURTHER = [
+    (VIEW % '(put x) (put (get User towns (first (from ((u User)) true key)))) (put (add 1 "a"))', ['3:8', '3:26', '3:81']),
+    (TAG % '{{ x }}{{ y }}{% (if z) %}{% end %}', ['3:17', '3:24', '3:35']),
+    ('(app (view get "/" (params) (putt 1))\n (view get "/b" (params) (puut 1))\n (view get "/c" (params) (put z)))',
+     ['1:29', '2:26', '3:31']),
+    (VIEW % '(if true (put "a") (put "b"))', ['3:12']),
+    ('(app (model User (fields (a b)))\n (view get "/" (params) (put x)))', ['1:29']),
+    ('(app\n %s)' % '\n '.join('(view get "/%d" (params) (put x))' % number for number in range(9)),
+     ['%d:31' % line for line in range(2, 8)]),
+]
+# Words of a command that the program refuses, and what is said of them; and words that it takes.
+COMMANDS = [
+    ('', 'what jac does'), ('foo', 'there is no command foo\n'), ('serv a 1 1', 'there is no command serv; is it serve?'),
+    ('--help', 'what jac does'), ('check', 'APP is missing: the command is check APP'),
+    ('check a b', 'b is one word too many'), ('check a --db x', 'check takes no --db'),
+    ('replay a', 'EVENTS is missing'), ('replay a b --dbb x', 'there is no option --dbb; is it --db?'),
+    ('replay a b --lazy=1', '--lazy has no value'), ('replay a b --lazy --lazy', '--lazy is there twice'),
+    ('replay a b --db', '--db takes the name of a file'), ('replay a b --db --lazy', '--db takes the name of a file'),
+    ('replay a b --db=', '--db takes the name of a file, and this one is empty'), ('replay a b -x', 'there is no option -x'),
+    ('serve a 80a 1', 'PORT is a number from 1 to 65535, and not 80a'), ('serve a 080 1', 'PORT is a number'),
+    ('serve a 65536 1', 'PORT is a number'), ('serve a 80 0', 'COUNT, how many'), ('demo 2001', 'N, how many'),
+    ('demo', 'N is missing'), ('why a b', 'VIEWER is the number of a record'), ('why a b --audit x', 'why takes no --audit'),
+    ('dump a 1,,2', 'LABELS are numbers joined by commas'), ('dump a 340282366920938463463374607431768211456', 'LABELS are'),
+    ('upgrade a b', 'upgrade asks for --db FILE'),
+]
+TAKEN = ['check none', 'replay none b --db=-x --lazy', 'dump none 1,2 --db none', 'why none -', 'check -- -none',
+         'upgrade --db=a=b none none', 'serve none 65535 1000000 --audit a --db b --sessions c', 'why none 0',
+         'dump none 340282366920938463463374607431768211455']
+# Stores: the application that made one, what it is given to, and what is said of it.
+WIDE = '(app (model User (fields (name text) (age int)) (group (guards (age 0)) (policy true))))'
+NARROW = '(app (model User (fields (name text))))'
+OTHER = '(app (model User (fields (name int))))'
+STORES = [
+    (NARROW, 'dump next -', WIDE, 'in next the field age of User is new. ./jac upgrade OLD next --db store brings it there'),
+    (WIDE, 'replay next none', NARROW, 'in next the field age of User is missing. The store is one of a later version of next'),
+    (NARROW, 'why next -', OTHER, 'in next the field name of User is int where it was text. No upgrade leads there'),
+    (WIDE, 'serve next 80 1', WIDE.replace('guards (age 0)', 'guards (name "")'), 'group 1 of User guards name where it was one '
+     'that guards age. No upgrade leads there'),
+    (WIDE, 'dump next -', WIDE.replace('(guards (age 0))', 'hides'), 'group 1 of User hides its records'),
+    (NARROW, 'dump next -', NARROW.replace('User', 'Person'), 'model 1 is Person where it was User'),
+    (NARROW, 'dump next -', NARROW.replace('User ', 'User nested '), 'the model User is nested where it was not'),
+    (WIDE, 'upgrade app next', NARROW, 'next does not extend app: the field age of User is missing'),
+    (WIDE, 'upgrade next app', NARROW, 'store is a store of app already'),
+    (WIDE, 'dump next -', WIDE.replace('true', 'false'), ''),
+]
+
 DAMAGES = [lost_brackets_of_items, lost_brackets, brackets_too_many, operands_too_many, operands_too_few, unknown_forms,
            unknown_statements, quotes_in_tags, lost_ends, ends_too_many, unknown_fields, unknown_kinds, unknown_models,
            policies_of_numbers, conditions_of_texts, comments, twice_named]
+
+
+def expected(name, out, err, want):
+    """What is wrong with what is said, if anything: nothing stands on standard output, and no words are wanted at all or
+    these are among those on standard error."""
+    right = not out and (want in err if want else not err)
+    return None if right else '%s: wanted %s, and this is said: %s' % (name, want or 'nothing', (out + err)[:300])
+
+
+def places(text):
+    return re.findall(r'(?m)^damaged\.app:(\d+:\d+): ', text)
+
+
+def messages(folder):
+    for text, place, want in MESSAGES:
+        out, err = said(folder, text.encode())
+        yield expected(text, out, err.split('\nand further')[0], want)
+        yield None if err.startswith('damaged.app:%s: ' % place) else '%s: wanted %s, and this is said: %s' % (text, place, err)
+    for text, want in FURTHER:
+        out, err = said(folder, text.encode())
+        have = places(err)
+        yield None if have == want else '%s: wanted the places %s, and these are said: %s' % (text, want, have)
+
+
+def status(folder, words):
+    return subprocess.run([PROGRAM, *words], cwd=folder, stdin=subprocess.DEVNULL, stdout=subprocess.PIPE,
+                          stderr=subprocess.DEVNULL, check=False).returncode
+
+
+def commands(folder):
+    for line, want in COMMANDS:
+        words = line.split()
+        yield expected('the words ' + line, *said(folder, b'', words=words), 'jac: ' + want)
+        yield None if status(folder, words) == 1 else 'the program takes the words ' + line
+    for line in TAKEN:
+        yield expected('the words ' + line, *said(folder, b'', words=line.split()), '')
+        yield None if status(folder, line.split()) == 4 else 'the program refuses the words ' + line
+
+
+def stores(folder):
+    for first, line, second, want in STORES:
+        for name, text in ('app', first), ('next', second), ('events', ''):
+            with open(os.path.join(folder, name), 'w', encoding='utf-8') as file:
+                file.write(text)
+        for name in 'store', 'store-wal':
+            if os.path.exists(os.path.join(folder, name)):
+                os.remove(os.path.join(folder, name))
+        status(folder, ['replay', 'app', 'events', '--db', 'store'])
+        words = line.split() + ['--db', 'store']
+        yield expected('%s, then %s' % (first, line), *said(folder, b'', words=words), want)
+        if line.startswith(('dump', 'why')):
+            yield None if status(folder, words) == (9 if want else 0) else 'the program takes the store: ' + line
 
 
 def said(folder, data, name='damaged.app', words=('check', 'damaged.app')):
@@ -216,12 +348,16 @@ def main():
                 else:
                     print('FAILED %s, %s: wanted %s, and this is said: %s' % (damage.__name__, name, want, err[:300]))
                     failed += 1
+        for wrong in [*messages(folder), *commands(folder), *stores(folder)]:
+            if wrong:
+                print('FAILED ' + wrong)
+            failed, passed = failed + bool(wrong), passed + (not wrong)
         said(folder, texts['examples/calendar.app'], 'well.app')
         said(folder, b'(app (model User (fields (name', 'open.app')
         for words, want in ((['upgrade', 'well.app', 'damaged.app', '--db', 'd'], 'damaged.app:1:20: '),
                             (['upgrade', '--db', 'd', 'damaged.app', 'open.app'], 'damaged.app:1:20: '),
-                            (['why', 'damaged.app', '4096'], 'damaged.app:1:20: '), (['upgrade', 'well.app', 'well.app'], ''),
-                            (['why', 'well.app', 'damaged.app'], '')):
+                            (['why', 'damaged.app', '4096'], 'damaged.app:1:20: '), (['upgrade', 'well.app', 'well.app', '--db', 'd'], ''),
+                            (['why', 'well.app', '4096'], ''), (['why', 'well.app', 'damaged.app'], 'jac: VIEWER is ')):
             out, err = said(folder, b'(app (view get "/" (putt "a")))', words=words)
             if out or err[:len(want) or None] != want:
                 print('FAILED %s: wanted %s, and this is said: %s' % (' '.join(words), want, err[:300]))

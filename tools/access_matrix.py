@@ -20,11 +20,12 @@ sys.dont_write_bytecode = True
 TOOLS = os.path.dirname(os.path.abspath(__file__))
 TOP = os.path.dirname(TOOLS)
 sys.path.insert(0, TOOLS)
+import application                                                          # noqa: E402
 import audit                                                                # noqa: E402
 import finger                                                               # noqa: E402
+import hidden                                                               # noqa: E402
 
 EVERY = 20          # seconds between two lines that tell how far it is
-MOST = 120000       # bytes of labels that a command is given
 WIDE = 30           # characters of a record's name
 
 STYLE = '''
@@ -133,38 +134,20 @@ def escaped(text):
 
 
 class Store:
-    """A copy of a store, and the program that is asked of it."""
+    """A copy of a store, the file of the application's text, and the program that is asked of them."""
 
-    def __init__(self, program, app, copy):
-        self.program, self.app, self.copy = program, app, copy
-
-    def asked(self, command, word):
-        done = subprocess.run([self.program, command, '--db', self.copy, '--', self.app, word], stdin=subprocess.DEVNULL,
-                              stdout=subprocess.PIPE, stderr=subprocess.PIPE, check=False)
-        out = done.stdout.decode('utf-8', 'replace').rstrip('\n')
-        if done.returncode:
-            raise Fault('%s %s: %s\n%s' % (command, word[:40], out[-500:], done.stderr.decode('utf-8', 'replace')))
-        return out.split('\n')
+    def __init__(self, program, app, text, copy):
+        self.program, self.app, self.text, self.copy = program, app, text, copy
 
     def why(self, viewer):
         """The labels that the viewer is shown, and for each other one what hides it, in words."""
-        lines = self.asked('why', viewer)
-        shown = labels_of(lines[0].partition(' ')[2])
-        hidden = [int(line.partition(' ')[0]) for line in lines[1:]]
-        path = self.copy + '-why'
-        with open(path, 'w', encoding='utf-8') as file:
-            file.write('\n'.join(lines) + '\n')
-        words = subprocess.run([sys.executable, os.path.join(TOOLS, 'why.py'), self.app, path], stdin=subprocess.DEVNULL,
-                               stdout=subprocess.PIPE, check=True).stdout.decode('utf-8', 'replace')
-        blocks = [block for block in re.findall(r'(?m)^\S.*(?:\n[ \t].*)*', words) if block.startswith('hidden stays ')]
-        if len(blocks) != len(hidden):
-            raise Fault('tools/why.py says something else than was asked')
-        return set(shown), {label: reason_of(block) for label, block in zip(hidden, blocks)}
+        shown, reasons = hidden.why(self.program, self.text, self.app, viewer, self.copy)
+        return set(shown), reasons
 
     def names(self, guarded):
         """The first text of each record that stands for everybody, of the fields that no group guards."""
         found = {}
-        for line in self.asked('dump', '-')[:-1]:
+        for line in hidden.asked(self.program, 'dump', self.text, '-', self.copy)[:-1]:
             model, number, *_ = line.split(' ', 2)
             texts = re.findall(r' (\S+?)="((?:[^"\\]|\\.)*)"', line)
             text = next((value for field, value in texts if field not in guarded[model] and value), None)
@@ -181,14 +164,6 @@ def plain(text):
     whole = b''.join(part.encode() if number % 2 == 0 else byte(re.match('(.*)', part)) for number, part in enumerate(parts))
     words = whole.decode('utf-8', 'replace')
     return words if len(words) <= WIDE else words[:WIDE - 2] + '..'
-
-
-def reason_of(block):
-    return '\n'.join(line.strip() for line in block.split('\n')[1:])
-
-
-def labels_of(text):
-    return [] if text == '-' else [int(label) for label in text.split(',')]
 
 
 class Column:
@@ -284,10 +259,11 @@ def made(options, room):
                           stdin=subprocess.DEVNULL, stdout=subprocess.PIPE, stderr=subprocess.STDOUT, check=False)
     if done.returncode:
         raise Fault('%s can\'t be copied: %s' % (options.db, done.stdout.decode('utf-8', 'replace').split('\n')[-2]))
-    with open(options.app, 'rb') as file:
-        data = file.read()
-    store = Store(options.program, options.app, copy)
-    store.asked('dump', '-')        # says what is wrong with the application or the store, where anything is
+    data, text = application.read(options.app), os.path.join(room, 'text')
+    with open(text, 'wb') as file:
+        file.write(data)
+    store = Store(options.program, options.app, text, copy)
+    hidden.asked(options.program, 'dump', text, '-', copy)  # says what is wrong with the application or the store
     names, checker = audit.Names(data), finger.Checker(finger.read_tree(data, list(range(len(data) + 1))))
     guarded = {model.children[1].value: {guard.children[0].value for group in finger.groups_in(model)
                                          for guard in finger.guards_in(group)} for model in checker.models}
@@ -321,7 +297,7 @@ def main(words):
     try:
         with tempfile.TemporaryDirectory(prefix='jac-matrix-') as room:
             text = made(options, room)
-    except (Fault, OSError) as fault:
+    except (Fault, application.Fault, hidden.Fault, OSError) as fault:
         sys.exit('access_matrix: %s' % fault)
     if options.output:
         with open(options.output, 'w', encoding='utf-8') as file:

@@ -1,8 +1,10 @@
 #!/usr/bin/env python3
 """Proves and builds a program: each crate after those that it stands on, as many side by side as processors and memory
 allow, and first those behind which the longest chain waits (`schedule.py`). Words: the program's crate. Tells on
-standard error which crates are done and under way, the minutes gone, and those that are thought to be left, by the
-table of costs in docs/TESTING.md. Where one fails, its log follows, and the status is 70."""
+standard error every 20 seconds which crates are done and under way, the minutes gone, and those that are thought to be
+left: by what crates took in earlier runs in this clone, which `out/measured.json` keeps, and for others by the table of
+costs in docs/TESTING.md, times what crates took here beyond it. Where one fails, its log follows, and the status is 70."""
+import json
 import os
 import signal
 import subprocess
@@ -13,12 +15,21 @@ import time
 sys.dont_write_bytecode = True
 import kit                                                                  # noqa: E402
 from costs import costs                                                     # noqa: E402
-from crates import PROGRAM, below, files, folder                            # noqa: E402
+from crates import PROGRAM, TOP, below, files, folder                       # noqa: E402
 from program import PROVED, State, is_current                               # noqa: E402
 from schedule import Schedule, Task                                         # noqa: E402
 
-EVERY = 60      # seconds after which a line is due where no crate began or ended
+EVERY = 20      # seconds after which a line is due where no crate began or ended
 STEP = '--step'
+MEASURED = os.path.join(TOP, 'out', 'measured.json')
+
+
+class Stopped(SystemExit):
+    """A signal that ends this."""
+
+    def __init__(self, number):
+        super().__init__(128 + number)
+        self.name = signal.Signals(number).name
 
 
 def tell(text):
@@ -54,6 +65,13 @@ class Proof:
             return not os.access(self.program, os.X_OK)
         return self.process.returncode != 0
 
+    def failure(self):
+        """Why it failed, in words."""
+        if self.process.returncode < 0:
+            name = signal.Signals(-self.process.returncode).name
+            return 'was ended by %s%s' % (name, ', as the system does where memory runs out' if name == 'SIGKILL' else '')
+        return 'is not proved: its log is above'
+
     def print_log(self):
         self.log.seek(0)
         sys.stderr.flush()
@@ -70,13 +88,41 @@ def is_kept(name, names):
     return all(os.stat(path).st_mtime < built for other in names for path in files(other))
 
 
+def measured():
+    """The minutes of one processor that crates took here, by name."""
+    try:
+        with open(MEASURED, encoding='utf-8') as file:
+            return {name: float(minutes) for name, minutes in json.load(file).items()}
+    except (OSError, ValueError, AttributeError, TypeError):
+        return {}
+
+
+def remember(runs):
+    """Keeps what these proofs took."""
+    took = {run.task.name: round(run.work(), 2) for run in runs if run.minutes() > 0.1 and not run.run.failed()}
+    if took:
+        os.makedirs(os.path.dirname(MEASURED), exist_ok=True)
+        with open(MEASURED + '.new', 'w', encoding='utf-8') as file:
+            json.dump({**measured(), **took}, file, indent=1, sort_keys=True)
+        os.replace(MEASURED + '.new', MEASURED)
+
+
+def minutes_thought(thought, took):
+    """The minutes of each crate: what it took here, or what the table says times what others took here beyond it."""
+    known = [name for name in thought if name in took]
+    table = sum(thought[name].proof for name in known)
+    ratio = sum(took[name] for name in known) / table if table > 1 else 1
+    return {name: took.get(name, cost.proof * ratio) for name, cost in thought.items()}
+
+
 def tasks_for(program):
     """A task for each crate that the program stands on, and for the program."""
     every = below(program)
     thought = costs(every)
+    expected = minutes_thought(thought, measured())
     for name, names in every.items():
         kept = is_kept(name, below(name))
-        yield Task(name, names, 0.05 if kept else thought[name].proof, thought[name].memory,
+        yield Task(name, names, 0.05 if kept else expected[name], thought[name].memory,
                    lambda jobs, name=name: Proof(name, name == program, jobs))
 
 
@@ -88,9 +134,10 @@ def state_of(schedule):
     left = schedule.left()
     under_way = ', '.join(name + (' for %d min' % run.minutes() if run.minutes() >= 1 else '')
                           for name, run in schedule.running.items())
-    return '%d of %d crates, %s gone, by the table of costs %s%s left%s' % (
-        len(schedule.done), len(schedule.tasks), minutes(schedule.minutes()), 'about ' if left >= 1 else '',
-        minutes(left), '; under way: ' + under_way if under_way else '')
+    by = 'what crates took here' if schedule.measured()[1] > 1 or measured() else 'the table of costs, and none measured here yet'
+    return '%d of %d crates, %s gone, %s%s left by %s%s' % (
+        len(schedule.done), len(schedule.tasks), minutes(schedule.minutes()), 'about ' if left >= 1 else '', minutes(left), by,
+        '; under way: ' + under_way if under_way else '')
 
 
 def prove(schedule):
@@ -100,10 +147,11 @@ def prove(schedule):
         began = schedule.begin()
         time.sleep(0.2)
         ended = schedule.ended()
+        remember(ended)
         for proof in (run.run for run in ended):
             if proof.failed():
                 proof.print_log()
-                tell('%s is not proved' % proof.name)
+                tell('%s %s' % (proof.name, proof.failure()))
                 return False
         names = ', '.join(run.task.name for run in ended)
         if ended and not schedule.is_over():
@@ -121,6 +169,18 @@ def stop(schedule):
         run.run.process.wait()
 
 
+def prove_or_stop(schedule):
+    """Runs the tasks to their end, or until a signal comes, and says what is kept then."""
+    try:
+        return prove(schedule)
+    except Stopped as stopped:
+        tell('stopped by %s: %d of %d crates are proved and kept, and the next ./prove goes on with the others; under way '
+             'was %s' % (stopped.name, len(schedule.done), len(schedule.tasks), ', '.join(schedule.running) or 'none'))
+        raise
+    finally:
+        stop(schedule)
+
+
 def build(program):
     """Proves and builds the program, and writes down what it was built of, where that is the one that `jac` runs."""
     if program == PROGRAM and is_current(PROVED):
@@ -130,11 +190,8 @@ def build(program):
     state = State(PROVED)
     schedule = Schedule(tasks_for(program))
     tell('proving and building %s; %s' % (program, state_of(schedule)))
-    try:
-        if not prove(schedule):
-            return 70
-    finally:
-        stop(schedule)
+    if not prove_or_stop(schedule):
+        return 70
     if State(PROVED).content != state.content:
         tell('the sources have changed meanwhile: once more')
         return build(program)
@@ -144,10 +201,14 @@ def build(program):
     return 0
 
 
+def stop_by(number, _):
+    raise Stopped(number)
+
+
 if __name__ == '__main__':
     if sys.argv[1:2] == [STEP]:
         sys.exit(step(sys.argv[2:]))
     # so that the proofs that are under way end with it
     for number in signal.SIGTERM, signal.SIGHUP, signal.SIGINT:
-        signal.signal(number, lambda number, _: sys.exit(128 + number))
+        signal.signal(number, stop_by)
     sys.exit(build(sys.argv[1]))

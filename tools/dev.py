@@ -20,9 +20,12 @@ import time
 
 sys.dont_write_bytecode = True
 sys.path.insert(0, os.path.dirname(os.path.abspath(__file__)))
+import application                                                          # noqa: E402
 import dev_proxy                                                            # noqa: E402
 import finger                                                               # noqa: E402
+import hidden                                                               # noqa: E402
 import schema                                                               # noqa: E402
+from hidden import output_of                                                # noqa: E402
 
 TOOLS = os.path.dirname(os.path.abspath(__file__))
 HOST = '127.0.0.1'
@@ -50,12 +53,6 @@ class Ended(Exception):
 
 def tell(text):
     print('%s dev: %s' % (time.strftime('%H:%M:%S'), text), file=sys.stderr, flush=True)
-
-
-def output_of(words):
-    """The status of a command and what it put, on standard output and on standard error."""
-    done = subprocess.run(words, stdin=subprocess.DEVNULL, stdout=subprocess.PIPE, stderr=subprocess.PIPE, check=False)
-    return done.returncode, done.stdout.decode('utf-8', 'replace').rstrip('\n'), done.stderr.decode('utf-8', 'replace').rstrip('\n')
 
 
 class Source:
@@ -86,23 +83,10 @@ class Source:
 
     def read(self):
         """The text of the application as it is now."""
-        if os.path.isdir(self.path):
-            return self.assembled()
         try:
-            with open(self.path, 'rb') as file:
-                return file.read()
-        except OSError as fault:
-            raise Refused('read fault: %s' % self.path, '%s: %s' % (self.path, fault.strerror)) from None
-
-    def assembled(self):
-        tool = os.path.join(TOOLS, 'assemble.py')
-        if not os.path.exists(tool):
-            raise Refused('%s is a folder' % self.path, 'an application is one file')
-        done = subprocess.run([sys.executable, tool, self.path], stdin=subprocess.DEVNULL, stdout=subprocess.PIPE,
-                              stderr=subprocess.PIPE, check=False)
-        if done.returncode:
-            raise Refused('the folder %s can\'t be put together' % self.path, done.stderr.decode('utf-8', 'replace'))
-        return done.stdout
+            return application.read(self.path)
+        except application.Fault as fault:
+            raise Refused('read fault: %s' % self.path, str(fault)) from None
 
 
 class Text:
@@ -169,7 +153,7 @@ class Child:
 
 class Dev:
     """What is served, and what was refused. `door` is held by whoever asks the program or exchanges it."""
-    faults = OSError, Ended     # of `ask`
+    faults = OSError, Ended, hidden.Fault   # of `ask` and `why`
 
     def __init__(self, options, room):
         self.program, self.port, self.room = options.program, options.port, room
@@ -208,9 +192,7 @@ class Dev:
         status, line, _ = output_of([self.program, 'check', path])
         if status == 0:
             return Text(path, data, line)
-        fault = finger.finger(data, line)
-        details = finger.shown_fault(data, self.source.path, fault) if fault else ''
-        raise Refused(line.replace(path, self.source.path), details)
+        raise Refused(line.replace(path, self.source.path), finger.report(self.program, data, self.source.path, line))
 
     def looked(self):
         """What the second look says of the application, or nothing."""
@@ -361,16 +343,10 @@ class Dev:
             return reply, line, self.text
 
     def why(self, viewer):
-        """What `why` says of this viewer over the store as it is, in the program's lines and in words."""
+        """What `why` says of this viewer over the store as it is: the labels that are shown, and what hides the others."""
         with self.asking:
             copy, text = self.copy_for_reading()
-            status, lines, told = output_of([self.program, 'why', '--db', copy, '--', text, viewer])
-            if status:
-                return lines, told
-            with open(copy + '-why', 'w', encoding='utf-8') as file:
-                file.write(lines + '\n')
-            words = output_of([sys.executable, os.path.join(TOOLS, 'why.py'), text, copy + '-why'])[1]
-            return lines, words.replace(text, self.source.path)
+            return hidden.why(self.program, text, self.source.path, viewer, copy)
 
     def close(self):
         with self.door:

@@ -194,20 +194,10 @@ def broken(dev, fault):
 
 # the labels of a page in words
 
-def reasons(lines, words):
-    """For each label that `why` gives as hidden, what is said of it in words. A part of the words that isn't indented
-    begins what is said of the next line."""
-    hidden = [int(line.split(' ', 1)[0]) for line in lines.split('\n')[1:] if re.match(r'\d+ ', line)]
-    blocks = re.findall(r'(?m)^\S.*(?:\n[ \t].*)*', words)
-    told = [block for block in blocks if block.startswith('hidden stays ')]
-    return dict(zip(hidden, told)) if len(told) == len(hidden) else dict.fromkeys(hidden, '')
-
-
 def item(names, label, reason=''):
     record, fields = names.label(label)
-    words = '\n'.join(line.strip() for line in reason.split('\n')[1:])
     return '<li>%s%s%s</li>' % (escaped(record), ': ' + escaped(fields) if fields else '',
-                                '<pre>%s</pre>' % escaped(words) if words else '')
+                                '<pre>%s</pre>' % escaped(reason) if reason else '')
 
 
 def listed(head, kind, items):
@@ -217,8 +207,7 @@ def listed(head, kind, items):
 def labels(dev, page):
     """The labels of a page: those that are shown, and those that aren't, with the policies that hide them."""
     names = audit.Names(page.text.data)
-    lines, words = dev.why(page.viewer)
-    why = reasons(lines, words)
+    _, why = dev.why(page.viewer)
     hidden = page.hidden()
     stale = '' if page.text is dev.text else '<p>This page is of an earlier text.</p>'
     of = 'of this page' if hidden is not None else 'of the store'

@@ -10,6 +10,7 @@ import urllib.parse
 
 import dev_pages
 from dev_pages import PREFIX
+from hidden import labels_of
 
 PAGES = 500             # that are remembered, for what is asked of them later
 MOST = 1 << 20          # bytes of a body that are read
@@ -26,18 +27,14 @@ class Page:
         found = AUDIT.fullmatch(line)
         self.number, self.method, self.target, self.text = number, method, target, text
         self.viewer = found.group(2) if found else '-'
-        self.shown = labels(found.group(3)) if found else []
-        self.consulted = labels(found.group(4)) if found and found.group(4) else None
+        self.shown = labels_of(found.group(3)) if found else []
+        self.consulted = labels_of(found.group(4)) if found and found.group(4) else None
 
     def hidden(self):
         """The labels that the page consulted and that aren't shown, or None where it isn't told."""
         if self.consulted is None:
             return None
         return [label for label in self.consulted if label not in self.shown]
-
-
-def labels(text):
-    return [int(label) for label in text.split(',')] if text not in ('-', 'nopage') else []
 
 
 def split_reply(reply):
@@ -153,7 +150,10 @@ class Handler(http.server.BaseHTTPRequestHandler):
         page = self.server.pages.get(int(found.group(2))) if found else None
         if page is None:
             return self.send_text(404, 'text/plain', 'There is no such page of dev, or it is forgotten.\n')
-        text = dev_pages.labels(dev, page)
+        try:
+            text = dev_pages.labels(dev, page)
+        except dev.faults as fault:
+            text = dev_pages.told(str(fault))
         return self.send_text(200, 'text/html', text if found.group(1) == 'labels' else dev_pages.alone(page, text))
 
     def own_form(self, dev, word, body):

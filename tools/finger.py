@@ -10,11 +10,14 @@ import os
 import re
 import subprocess
 import sys
+import tempfile
 import unicodedata
 
 sys.dont_write_bytecode = True
 sys.path.insert(0, os.path.dirname(os.path.abspath(__file__)))
 import assemble                                                             # noqa: E402
+import commands                                                             # noqa: E402
+import meanings                                                             # noqa: E402
 
 LIMIT = 1048576
 EXPRESSIONS = ['get', 'live', 'add', 'sub', 'mul', 'eq', 'lt', 'and', 'or', 'not', 'cat', 'str', 'pick', 'count', 'sum',
@@ -34,7 +37,7 @@ SHAPES.update({word: '(%s a b)' % word for word in ('add', 'sub', 'mul', 'eq', '
 OPERANDS = {'none': 1, 'get': 3, 'live': 1, 'not': 1, 'str': 1, 'pick': 3, 'count': 1, 'sum': 2, 'some': 1, 'first': 1,
             'put': 1, 'esc': 1, 'assign': 2, 'if': 3, 'update': 3, 'delete': 2, 'missing': 0, 'redirect': 1, 'template': 1}
 OPERANDS.update({word: 2 for word in ('add', 'sub', 'mul', 'eq', 'lt', 'and', 'or')})
-NUMBERS = ['none', 'one', 'two', 'three', 'four', 'five', 'six', 'seven', 'eight', 'nine', 'ten']
+NUMBERS = ['no', 'one', 'two', 'three', 'four', 'five', 'six', 'seven', 'eight', 'nine', 'ten']
 WANTED = {
     'app': 'an application: (app (viewer MODEL) model .. view ..), in this order',
     'item': 'a model or a view: (model NAME (fields ..) (group ..) ..), with nested behind the NAME of a model whose '
@@ -136,9 +139,7 @@ def read_tree(data, places):
             at += 1
             continue
         if done is not None:
-            what = 'this closing bracket has no opening one' if byte == ord(')') else \
-                'the application ended at the bracket before, and something follows it'
-            raise TreeFault('stray', at, what, notes=suspects(data, places, done, texts))
+            raise ended_early(data, at, done, texts)
         if byte == ord('('):
             if len(open_lists) == 64:
                 raise TreeFault('deep', at, 'this is a list inside 64 lists, and 64 is the most')
@@ -260,8 +261,38 @@ def begins_its_line(data, at):
     return not data[data.rfind(b'\n', 0, at) + 1:at].strip()
 
 
-def suspects(data, places, done, texts):
-    return [(done.start, 'the list that ended begins here')] + text_notes(texts)
+def ended_early(data, at, done, texts):
+    """Something follows the bracket that closes the first list: a bracket too many stands before it."""
+    early = closed_early(data, done)
+    if early is not None:
+        return TreeFault('stray', at, 'this bracket seems to be one too many: what follows it belongs inside of the list that it '
+                         'closes', early, early + 1, text_notes(texts))
+    if data[at] == ord(')') or done.head() != 'app':
+        what = 'this closing bracket has no opening one' if data[at] == ord(')') else 'something follows the list that ended before'
+        return TreeFault('stray', at, what, notes=[(done.start, 'the list that ended begins here')] + text_notes(texts))
+    last = done.children[-1]
+    return TreeFault('stray', at, 'this bracket closes the application, and something follows it: the item before, that of line '
+                     '%d, has a bracket too many' % line_and_column(data, last.start)[0], done.end - 1, done.end,
+                     [(at, 'this follows')] + text_notes(texts))
+
+
+def closed_early(data, done):
+    """The bracket before the first child of the application that is no item, or before the first one that begins a line
+    further right than the first such child of its list."""
+    found, left = [], [done]
+    for before, child in zip(done.children[1:], done.children[2:]):
+        if done.head() == 'app' and before.head() in ('model', 'view') and child.head() not in ('model', 'view', 'viewer'):
+            return before.end - 1
+    while left:
+        node = left.pop()
+        own = [place for place, child in enumerate(node.children) if begins_its_line(data, child.start)]
+        for place in own[1:]:
+            before = node.children[place - 1]
+            if before.kind == 'list' and column_of(data, node.children[place].start) > column_of(data, node.children[own[0]].start):
+                found.append(before.end - 1)
+                break
+        left += [child for child in node.children if child.kind == 'list']
+    return min(found, default=None)
 
 
 def moved(node, places):
@@ -417,6 +448,11 @@ def template_fault(node):
         try:
             tree = read_tree(text[tag.start:tag.end], places[tag.start:tag.end + 1])
         except TreeFault as fault:
+            hint = bare_words(text[tag.start:tag.end], tag.kind)
+            if hint and fault.what == 'stray':
+                inside = text[tag.start:tag.end]
+                first = tag.start + len(inside) - len(inside.lstrip())
+                return ('tree', tag.at, here(first), here(tag.start + len(inside.rstrip()) - 1) + 1, hint, [])
             # a place in the tag's content: past its end it is the tag's own end
             spot = here(tag.start + fault.start)
             return ('tree', tag.at, spot, spot + 1,
@@ -439,7 +475,7 @@ def template_fault(node):
                 continue
             shapes = {'put': 2, 'if': 2, 'for': 2, 'let': 3}
             if word not in shapes or len(tree.children) != shapes[word] or (word == 'let' and not is_name(tree.children[1])):
-                return ('stray', tag.at, start, end,
+                return ('stray', tag.at, start, end, bare_words(text[tag.start:tag.end], 'control') or
                         'this is no tag: between {% and %} stands (put e), (let NAME e), (if e), (for q), else or end', [])
             operand = tree.children[-1]
             reader = read_query if word == 'for' else read_expression
@@ -454,6 +490,31 @@ def template_fault(node):
     if open_blocks:
         word, start, at, _ = open_blocks[-1]
         return ('unclosed', at, start, start + 2, 'this %s has no {%% end %%}' % word, [])
+    return None
+
+
+FORMS_OF_TAGS = {
+    'if': '{% (if truth) %}', 'for': '{% (for (from ((NAME MODEL)) true key)) %}', 'let': '{% (let NAME e) %}',
+    'set': '{% (let NAME e) %} .. {% end %}', 'put': '{% (put e) %}', 'elif': '{% else %}{% (if truth) %} .. {% end %}{% end %}',
+    'elsif': '{% else %}{% (if truth) %} .. {% end %}{% end %}', 'elseif': '{% else %}{% (if truth) %} .. {% end %}{% end %}',
+    'endif': '{% end %}', 'endfor': '{% end %}', 'endlet': '{% end %}',
+}
+
+
+def bare_words(inside, kind):
+    """What to say of a tag as other template languages write it, whose form stands in no brackets; else None."""
+    words = inside.decode('utf-8', 'replace').split()
+    if not words or words[0].startswith(('(', "'", '"')) or "'" in words[0]:
+        return None
+    if kind == 'output':
+        field = re.match(r'([A-Za-z][\w-]*)\.([A-Za-z][\w-]*)', words[0])
+        form = '{{ (get MODEL %s %s) }}' % (field.group(2), field.group(1)) if field else '{{ (get MODEL FIELD NAME) }}'
+        more = ', and there are no filters' if '|' in inside.decode('utf-8', 'replace') else ''
+        return 'a tag holds one form in brackets, or one word: %s%s' % (form, more)
+    word = 'elif' if words[:2] == ['else', 'if'] else words[0]
+    if word in FORMS_OF_TAGS:
+        one = 'each block ends alike' if word.startswith('end') else 'a tag holds one form in brackets'
+        return '%s: %s' % (one, FORMS_OF_TAGS[word])
     return None
 
 
@@ -495,8 +556,8 @@ def form_words(fault):
             return '%s begins with its word; here is %s' % (WANTED[want], what_stands(node))
         other = STATEMENTS if want == 'expression' else EXPRESSIONS
         where = ', which is a form of %s' % ('statements' if want == 'expression' else 'expressions') if word in other else ''
-        close = nearest(word, known)
-        guess = '; is it %s?' % close if close and not where else ''
+        close = meanings.meant(word, getattr(meanings, want.upper() + 'S')) or (None if where else nearest(word, known, 0.75))
+        guess = '; is it %s?' % close if close else ''
         return 'there is no %s %s%s%s; the forms of %s are %s' % (
             want, word, where, guess, WANTED[want], ' '.join(known))
     if want == 'expression' and node.kind == 'atom':
@@ -511,6 +572,10 @@ def form_words(fault):
         if binders.kind == 'list' and len(binders.children) > 1:
             return 'the query of a count or a sum has one binder; here are %s' % counted(len(binders.children), 'binder')
         return 'the binders of a query are a list of lists, as ((e Event))'
+    if want == 'kind':
+        word = node.head() if node.kind == 'list' else node.value if node.kind == 'atom' else ''
+        close = meanings.meant(word or '', meanings.KINDS)
+        return 'expected %s; here is %s%s' % (WANTED[want], what_stands(node), '; is it %s?' % close if close else '')
     if want == 'name' and node.kind == 'list' and node.children:
         return '%s; here is a list' % WANTED[want]
     return 'expected %s; here is %s' % (WANTED[want], what_stands(node))
@@ -524,9 +589,9 @@ def shape_words(word, node):
     return 'expected %s' % SHAPES[word]
 
 
-def nearest(word, words):
+def nearest(word, words, least=0.6):
     import difflib
-    found = difflib.get_close_matches(word, words, 1, 0.5)
+    found = difflib.get_close_matches(word, words, 1, least)
     return found[0] if found else None
 
 
@@ -974,7 +1039,8 @@ def fault_of(data, line):
         node = at_path(tree, path)
         if node is None:
             return None
-        return Fault(line, node.start, node.end, form_words(FormFault(node, path, found.group(2))))
+        meant, words = misplaced(tree, path, node, found.group(2))
+        return Fault(line, meant.start, meant.end, words or form_words(FormFault(node, path, found.group(2))))
     found = re.fullmatch(r'app: too many ([a-z]+) at ([0-9.]+|top): ([0-9]+), limit ([0-9]+)', line)
     if found:
         path = [] if found.group(2) == 'top' else [int(number) for number in found.group(2).split('.')]
@@ -995,6 +1061,25 @@ def fault_of(data, line):
         return clash(line, views, int(found.group(1)))
     Checker(tree).check()
     return None
+
+
+def misplaced(tree, path, node, want):
+    """The tree that is meant, and what to say of one that would be right at another place, or nothing."""
+    parent = at_path(tree, path[:-1]) if path else None
+    if want == 'item' and parent is tree:
+        views = [item for item in tree.children[:path[-1]] if item.head() == 'view']
+        if node.head() == 'model' and views:
+            return node, 'models come before views: this one comes after %s' % counted(len(views), 'view')
+        if node.head() == 'viewer':
+            return node, '(viewer MODEL) comes first, before the models and the views'
+    if want == 'statement' and len(path) > 1:
+        around = at_path(tree, path[:-2])
+        if around.head() == 'if' and path[-2] in (2, 3) and parent.head() in STATEMENTS:
+            return parent, 'a branch is a list of statements: ((%s ..))' % parent.head()
+        first = node.children[0] if node.kind == 'list' and node.children else None
+        if first is not None and first.head() in STATEMENTS and parent.head() in ('let', 'for', 'create', 'view'):
+            return node, 'the statements of a %s stand beside each other, with no list round them' % parent.head()
+    return node, ''
 
 
 def clash(line, views, number):
@@ -1096,6 +1181,73 @@ def finger(data, line):
     return fault if fault and fault.line == line else None
 
 
+# Further faults: each unit that has one is taken out, and the program is asked of what is left.
+
+MOST_FURTHER = 5
+ALONE = ('put', 'esc', 'assign', 'update', 'delete', 'redirect')
+
+
+def unit_of(data, at):
+    """The smallest part round a place without which the rest means what it meant: a tag that shows a value, a statement
+    that binds no name, or a view. None where there is none."""
+    tree = read_tree(data, list(range(len(data) + 1)))
+    view = next((item for item in tree.children if item.head() == 'view' and item.start <= at < item.end), None)
+    if view is None:
+        return None
+    around, node = None, view
+    while node is not None:
+        if node.head() in ALONE and around.head() in (None, 'view', 'let', 'for', 'create'):
+            return node.start, node.end
+        if node.head() == 'template' and len(node.children) == 2 and node.children[1].kind == 'text':
+            return tag_around(node.children[1], at) or (view.start, view.end)
+        around, node = node, next((child for child in node.children if child.start <= at < child.end), None)
+    return view.start, view.end
+
+
+def tag_around(text, at):
+    for tag in tags_of(text.value):
+        start, end = text.places[tag.at], text.places[min(tag.end + 1, len(text.places) - 1)] + 1
+        if tag.kind == 'output' and start <= at < end:
+            return start, end
+    return None
+
+
+def further(program, data, fault):
+    """The faults that the program tells once what has the first one is taken out, and so on."""
+    found = []
+    with tempfile.NamedTemporaryFile(prefix='jac-finger-') as file:
+        while fault and len(found) < MOST_FURTHER:
+            unit = unit_of(data, fault.start)
+            if unit is None:
+                break
+            data = data[:unit[0]] + re.sub(rb'[^\r\n]', b' ', data[unit[0]:unit[1]]) + data[unit[1]:]
+            file.seek(0)
+            file.truncate()
+            file.write(data)
+            file.flush()
+            line = refusal(program, file.name)
+            fault = finger(data, line) if line else None
+            if fault:
+                found.append(fault)
+    return found
+
+
+def report(program, data, name, line):
+    """The fault of the program's line as it is shown, and those that come after it; or nothing."""
+    fault = finger(data, line)
+    if not fault:
+        return ''
+    shown = [shown_fault(data, name, fault)]
+    try:
+        more = further(program, data, fault)
+    except (TreeFault, OSError, IndexError, KeyError, AttributeError, RecursionError):
+        more = []
+    if more:
+        shown.append('and further on:')
+        shown += [shown_fault(data, name, one) for one in more]
+    return '\n'.join(shown)
+
+
 # How many applications the commands take that take one.
 TAKEN = {'check': 1, 'replay': 1, 'serve': 1, 'dump': 1, 'upgrade': 2, 'why': 1}
 
@@ -1115,6 +1267,11 @@ def places_of_applications(words):
     return found[:TAKEN.get(words[0], 0)] if words else []
 
 
+def applications_in(words):
+    """The files and folders of the applications among the words of a command."""
+    return [words[place] for place in places_of_applications(words)]
+
+
 def refusal(program, name):
     """The line by which the program refuses this application, or None."""
     told = subprocess.run([program, 'check', '--', name], stdin=subprocess.DEVNULL, stdout=subprocess.PIPE,
@@ -1124,17 +1281,37 @@ def refusal(program, name):
 
 
 def main(words):
-    for name in [words[1:][place] for place in places_of_applications(words[1:])]:
+    wrong = commands.fault(words[1:])
+    if wrong:
+        print('jac: ' + wrong, file=sys.stderr)
+        return
+    for name in applications_in(words[1:]):
         try:
             data = assemble.read(name)
         except (OSError, assemble.Fault):
             return
         line = refusal(words[0], assemble.path_of(data) if isinstance(data, assemble.Application) else name)
         if line:
-            fault = finger(data, line)
-            if fault:
-                print(shown_fault(data, name, fault), file=sys.stderr)
+            told = report(words[0], data, name, line)
+            if told:
+                print(told, file=sys.stderr)
             return
+    told = told_of_store(words[1:])
+    if told:
+        print('jac: ' + told, file=sys.stderr)
+
+
+def told_of_store(words):
+    """What to say where the store isn't one of the application, or nothing."""
+    import schema
+    try:
+        apps = []
+        for name in applications_in(words):
+            with open(name, 'rb') as file:
+                apps.append((name, file.read()))
+        return schema.told(words[0], commands.value_of(words[1:], '--db'), apps) if apps else ''
+    except (TreeFault, OSError, IndexError, KeyError, AttributeError):
+        return ''
 
 
 if __name__ == '__main__':

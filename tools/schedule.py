@@ -37,6 +37,10 @@ class Running:
     def minutes(self):
         return (time.monotonic() - self.began) / 60
 
+    def work(self):
+        """The minutes of one processor that it has taken."""
+        return self.minutes() * speed(self.jobs)
+
     def left(self, pace):
         return max(0, self.task.minutes * pace / speed(self.jobs) - self.minutes())
 
@@ -109,16 +113,24 @@ class Schedule:
             del self.running[run.task.name]
             self.done.add(run.task.name)
             if run.minutes() > 0.1:
-                self.taken += run.minutes() * speed(run.jobs)
+                self.taken += run.work()
                 self.thought += run.task.minutes
         return found
 
     def minutes(self):
         return (time.monotonic() - self.began) / 60
 
+    def measured(self):
+        """The minutes that tasks took here, and those that they were thought to take: of the tasks that have ended, and of
+        those under way that take longer than was thought."""
+        over = [run for run in self.running.values() if run.work() > run.task.minutes]
+        return (self.taken + sum(run.work() for run in over),
+                self.thought + sum(run.task.minutes for run in over))
+
     def pace(self):
         """How much longer than thought the tasks took so far."""
-        return self.taken / self.thought if self.thought > 1 else 1
+        taken, thought = self.measured()
+        return taken / thought if thought > 1 else 1
 
     def left(self):
         """The minutes that are thought to be left, by the longest chain and by all that is to be done."""

@@ -76,7 +76,7 @@ def first_lack(old, new):
     """The first part of the old models that the new ones lack or have otherwise, in words, or None where they extend them."""
     for place, model in enumerate(old):
         if place >= len(new):
-            return 'the model %s is there no more' % model.name
+            return 'the model %s is missing' % model.name
         other = new[place]
         if other.name != model.name:
             return 'model %d is %s where it was %s' % (place + 1, other.name, model.name)
@@ -92,14 +92,14 @@ def first_lack_in(old, new):
     """The same of two models of one name."""
     for place, (name, kind) in enumerate(old.fields):
         if place >= len(new.fields):
-            return 'the field %s of %s is there no more' % (name, old.name)
+            return 'the field %s of %s is missing' % (name, old.name)
         if new.fields[place][0] != name:
             return 'field %d of %s is %s where it was %s' % (place + 1, old.name, new.fields[place][0], name)
         if new.fields[place][1] != kind:
             return 'the field %s of %s is %s where it was %s' % (name, old.name, new.fields[place][1], kind)
     for place, group in enumerate(old.groups):
         if place >= len(new.groups):
-            return 'the group of %s that %s is there no more' % (old.name, group_text(group))
+            return 'the group of %s that %s is missing' % (old.name, group_text(group))
         if new.groups[place] != group:
             return 'group %d of %s %s where it was one that %s' % (
                 place + 1, old.name, group_text(new.groups[place]), group_text(group))
@@ -138,3 +138,34 @@ def model_text(model):
 def application(models):
     """An application that has this schema and nothing else: what `upgrade` takes as the old one."""
     return '(app\n %s)\n' % '\n '.join(map(model_text, models))
+
+
+def told(command, store, apps):
+    """What to say of a store that isn't one of the application that a command is given, or of two applications of an
+    upgrade, or nothing. `apps` are the applications' names, each with its text."""
+    models = [of_application(data) for _, data in apps]
+    stored = of_store(store) if store else None
+    if command == 'upgrade' and stored is not None and len(apps) == 2 and is_same(of_text(stored), models[1]):
+        return '%s is a store of %s already.' % (store, apps[1][0])
+    if stored is not None and not is_same(of_text(stored), models[0]):
+        return of_other(command, store, of_text(stored), apps[0][0], models[0])
+    if command == 'upgrade' and len(apps) == 2:
+        lack = first_lack(*models)
+        return lack and '%s does not extend %s: %s. An upgrade adds models, fields and groups after those that are there.' % (
+            apps[1][0], apps[0][0], lack)
+    return ''
+
+
+def of_other(command, store, old, name, new):
+    """The first difference, and whether an upgrade leads from the store to the application."""
+    lack = first_lack(old, new)
+    if lack:
+        words = '%s keeps records of another application. Compared with it, in %s %s.' % (store, name, lack)
+        back = first_lack(new, old)
+        if back is None:
+            return words + ' The store is one of a later version of %s; no upgrade leads back.' % name
+        return words + ' No upgrade leads there: it adds models, fields and groups after those that are there.'
+    words = '%s keeps records of an earlier version: in %s %s.' % (store, name, first_addition(old, new))
+    if command == 'upgrade':
+        return words + ' The first application of an upgrade is the one that the store was made by.'
+    return words + ' ./jac upgrade OLD %s --db %s brings it there, with OLD the application that it was made by.' % (name, store)

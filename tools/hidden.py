@@ -1,0 +1,58 @@
+"""What a viewer is shown of a store and what not, as `jac why` and `tools/why.py` say it."""
+import os
+import re
+import subprocess
+import sys
+
+WHY = os.path.join(os.path.dirname(os.path.abspath(__file__)), 'why.py')
+
+
+class Fault(Exception):
+    """The program put no answer: its line, and what it said on standard error."""
+
+    def __init__(self, line, told):
+        super().__init__('\n'.join(part for part in (line, told) if part))
+
+
+def output_of(words):
+    """The status of a command and what it put, on standard output and on standard error."""
+    done = subprocess.run(words, stdin=subprocess.DEVNULL, stdout=subprocess.PIPE, stderr=subprocess.PIPE, check=False)
+    return done.returncode, done.stdout.decode('utf-8', 'replace').rstrip('\n'), done.stderr.decode('utf-8', 'replace').rstrip('\n')
+
+
+def labels_of(text):
+    return [] if text in ('-', 'nopage') else [int(label) for label in text.split(',')]
+
+
+def asked(program, command, text, word, store):
+    """The lines of a command that reads a store."""
+    status, out, told = output_of([program, command, '--db', store, '--', text, word])
+    if status:
+        raise Fault(out[-500:], told)
+    return out.split('\n')
+
+
+def why(program, text, app, viewer, store):
+    """The labels that the viewer is shown, and for each other one what hides it, in words. `text` is the file of the
+    application's text, and `app` what it is called."""
+    lines = asked(program, 'why', text, viewer, store)
+    hidden = [int(line.partition(' ')[0]) for line in lines[1:]]
+    with open(store + '-lines', 'w', encoding='utf-8') as file:
+        file.write('\n'.join(lines) + '\n')
+    blocks = in_words(app, text, store, len(hidden))
+    return labels_of(lines[0].partition(' ')[2]), dict(zip(hidden, blocks))
+
+
+def in_words(app, text, store, count):
+    """What `why.py` says of so many hidden labels. A line that isn't indented begins what is said of the next one."""
+    for words in [app, store + '-lines', '--db', store], [text, store + '-lines', '--db', store], [text, store + '-lines']:
+        status, out, _ = output_of([sys.executable, WHY, *words])
+        blocks = [block for block in re.findall(r'(?m)^\S.*(?:\n[ \t].*)*', out) if block.startswith('hidden stays ')]
+        if status == 0 and len(blocks) == count:
+            return [reason(block).replace(text, app) for block in blocks]
+    return [''] * count
+
+
+def reason(block):
+    """What is said below the first line, with the indent that it has beyond that of its first line."""
+    return '\n'.join(line[4:].rstrip() for line in block.split('\n')[1:])
