@@ -110,6 +110,13 @@ class Words:
         return ''
 
 
+def applications(words):
+    """The names of the applications among the words of a command that has nothing wrong."""
+    read = Words(words[0], words[1:])
+    read.fault()
+    return [word for name, word in zip(COMMANDS[words[0]], read.operands) if name in ('APP', 'OLD', 'NEW')]
+
+
 def value_of(words, option):
     """The file that an option of these words names, or None."""
     words = words[:words.index('--')] if '--' in words else words

@@ -1303,14 +1303,12 @@ def main(words):
 
 def told_of_store(words):
     """What to say where the store isn't one of the application, or nothing."""
+    import application
     import schema
     try:
-        apps = []
-        for name in applications_in(words):
-            with open(name, 'rb') as file:
-                apps.append((name, file.read()))
+        apps = [(name, application.read(name)) for name in commands.applications(words)]
         return schema.told(words[0], commands.value_of(words[1:], '--db'), apps) if apps else ''
-    except (TreeFault, OSError, IndexError, KeyError, AttributeError):
+    except (TreeFault, application.Fault, IndexError, KeyError, AttributeError):
         return ''
 
 
