@@ -303,10 +303,10 @@ def beginnings():
         page = run.ask('GET', '/anything')
         yield expect('wrong from the first', page[0], 503)
         yield has('wrong from the first', page[2], 'nothing here is called aa', 'There is no page yet')
-        os.remove(run.path('app'))
         before = run.version()
+        os.remove(run.path('app'))
         run.until('a file that is gone', lambda: run.version() > before)
-        yield has('a file that is gone', run.page(), 'read fault: app')
+        yield has('a file that is gone', run.page(), 'app can&#x27;t be read', 'app: No such file or directory')
         run.saved(APP)
         yield has('then right', run.page(), 'Edition one')
         busy = subprocess.run([sys.executable, DEV, PROGRAM, 'app', str(run.port)], cwd=run.folder, stdin=subprocess.DEVNULL,

@@ -86,7 +86,7 @@ class Source:
         try:
             return application.read(self.path)
         except application.Fault as fault:
-            raise Refused('read fault: %s' % self.path, str(fault)) from None
+            raise Refused('%s can\'t be read' % self.path, str(fault)) from None
 
 
 class Text:
@@ -101,7 +101,7 @@ class Child:
     """A run of `serve`, on a port of its own."""
 
     def __init__(self, words, room):
-        self.audit = os.path.join(room, 'audit')
+        self.audit, self.run = os.path.join(room, 'audit'), None
         for attempt in range(TRIES):
             try:
                 return self.start(words, room)
@@ -109,6 +109,9 @@ class Child:
                 # another program may have taken the port in between
                 if ended.status != 8 or attempt == TRIES - 1:
                     raise
+            except BaseException:
+                self.stop()
+                raise
 
     def start(self, words, room):
         with socket.socket() as door:
@@ -147,8 +150,9 @@ class Child:
         return self.run.poll() is not None
 
     def stop(self):
-        self.run.terminate()
-        self.run.wait()
+        if self.run:
+            self.run.terminate()
+            self.run.wait()
 
 
 class Dev:
@@ -349,8 +353,11 @@ class Dev:
             return hidden.why(self.program, text, self.source.path, viewer, copy)
 
     def close(self):
+        """Ends the program, also where it is at work on a request."""
+        self.is_over, child = True, self.child
+        if child:
+            child.stop()
         with self.door:
-            self.is_over = True
             self.stop()
 
 

@@ -1184,6 +1184,7 @@ def finger(data, line):
 # Further faults: each unit that has one is taken out, and the program is asked of what is left.
 
 MOST_FURTHER = 5
+MOST_ASKED = 12     # times that the program is asked for them
 ALONE = ('put', 'esc', 'assign', 'update', 'delete', 'redirect')
 
 
@@ -1212,11 +1213,12 @@ def tag_around(text, at):
     return None
 
 
-def further(program, data, fault):
-    """The faults that the program tells once what has the first one is taken out, and so on."""
-    found = []
+def further(program, data, name, fault):
+    """The faults that the program tells once what has the first one is taken out, and so on, each place once: a part of a
+    folder may be in several views."""
+    whole, found, known = data, [], {where(data, name, fault.start)}
     with tempfile.NamedTemporaryFile(prefix='jac-finger-') as file:
-        while fault and len(found) < MOST_FURTHER:
+        for _ in range(MOST_ASKED):
             unit = unit_of(data, fault.start)
             if unit is None:
                 break
@@ -1227,8 +1229,12 @@ def further(program, data, fault):
             file.flush()
             line = refusal(program, file.name)
             fault = finger(data, line) if line else None
-            if fault:
-                found.append(fault)
+            if not fault or len(found) == MOST_FURTHER:
+                break
+            place = where(whole, name, fault.start)
+            if place not in known:
+                known.add(place)
+                found.append(Fault(fault.line, fault.start, fault.end, fault.words))
     return found
 
 
@@ -1239,7 +1245,7 @@ def report(program, data, name, line):
         return ''
     shown = [shown_fault(data, name, fault)]
     try:
-        more = further(program, data, fault)
+        more = further(program, data, name, fault)
     except (TreeFault, OSError, IndexError, KeyError, AttributeError, RecursionError):
         more = []
     if more:
