@@ -246,7 +246,7 @@ def viewers():
         yield has('another one asks', run.page(token='bob'), 'asked by <b>User 8192</b>', 'value="bob" selected',
                   '0 shown', '1 hidden', but=['a secret'])
         yield has('their labels', run.labels('bob'), 'Hidden, of this page', 'Note 12289 (made by POST 3): words',
-                  'by its own policy, app:4: (or (eq (get Note words this) &quot;&lt;i&gt;&quot;)', but=['<i>', 'Shown to'])
+                  'by its own policy', 'app:4: (or (eq (get Note words this) &quot;&lt;i&gt;&quot;)', but=['<i>', 'Shown to'])
         yield has('the owner\'s labels', run.labels('ann'), 'Shown to User 4096', 'Note 12289 (made by POST 3): words',
                   but=['Hidden, of this page'])
         yield has('a page without labels', run.labels('ann', '/plain'), 'nothing on this page is guarded')
