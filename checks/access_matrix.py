@@ -61,7 +61,7 @@ def compared(folder):
     yield expect('its cells', cells(text), (ROWS, SHOWN))
     yield expect('no value of what is guarded', [word for word in ('secret', '555-', 'subject', 'other') if word in text], [])
     yield expect('no markup of the store', ('<b>Ann' in text, '&lt;b&gt;Ann' in text), (False, True))
-    reasons = dict(re.findall(r'<li id="r(\d+)"><code>(.*?)</code>', text))
+    reasons = dict(re.findall(r'(?s)<li id="r(\d+)"><code>(.*?)</code>', text))
     yield expect('the reasons that cells name', set(re.findall(r'href="#r(\d+)"', text)), set(reasons))
     yield expect('the policy of a phone', [number for number, reason in reasons.items()
                                            if reason.endswith('app:3: (eq this viewer)')] != [], True)
