@@ -1,13 +1,10 @@
-"""Reads the text of an application from its file, or from its folder where `assemble.py` is there to put it together."""
+"""Reads the text of an application from its file or its folder."""
 import os
 import sys
 
 sys.dont_write_bytecode = True
 sys.path.insert(0, os.path.dirname(os.path.abspath(__file__)))
-try:
-    import assemble
-except ImportError:
-    assemble = None
+import assemble                                                             # noqa: E402
 
 
 class Fault(Exception):
@@ -16,13 +13,8 @@ class Fault(Exception):
 
 def read(path):
     try:
-        if assemble is not None:
-            return assemble.read(path)
-        with open(path, 'rb') as file:
-            return file.read()
+        return assemble.read(path)
     except OSError as fault:
         raise Fault('%s: %s' % (path, fault.strerror)) from None
-    except Exception as fault:
-        if assemble is None or not isinstance(fault, assemble.Fault):
-            raise
+    except assemble.Fault as fault:
         raise Fault(str(fault)) from None

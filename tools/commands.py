@@ -13,6 +13,7 @@ MANY = 2 ** 128
 HELP = '''what jac does; docs/USING.md has more of each
     check APP               reads an application, and says what is wrong with it
     dev APP PORT            serves it while it is written, for a browser on this machine
+    walk APP WALK..         tests it by walks, which say who asks what and what is expected
     serve APP PORT COUNT    serves so many connections
     replay APP EVENTS       answers a file of events
     dump APP LABELS         puts the records of a store as these labels show them
