@@ -61,7 +61,7 @@ REFUSED = [
     ('pages/list.html', '"x"', '(add 1)', 'app: template in view 1: form at', 'pages/list.html:4:73: in the view get /: add'),
     ('pages/rules', 'Person role', 'Person rôle', 'app: stray at', 'pages/rules:2:18: in the model Person: '),
     ('pages/rules', 'role viewer', 'rule viewer', 'app: model Person: unknown name rule', 'pages/rules:2:17: in the model Person: '),
-    ('main', '(params)', '(params))', 'app: stray at', 'main:7:66: '),
+    ('main', '(params)', '(params))', 'app: stray at', 'main:7:24: '),
     ('main', '(create p Person', '(create p Persons', 'app: view 0: unknown name Persons', 'main:6:52: in the view post /join: '),
 ]
 # a change of a part that Jinja2 takes no more, and what is said, with its place
