@@ -50,7 +50,7 @@ def outcomes_in(output, name):
     for line in output.split('\n'):
         match = SAID.match(line)
         if match and match[1] == name:
-            found[match[2]] = outcome_of(match[3], match[4]), match[4].lstrip(': ')
+            found[match[2]] = outcome_of(match[3], match[4]), match[4].removeprefix(', as it must be').lstrip(': ')
     return found
 
 
