@@ -375,20 +375,24 @@ def two_people(program, run, plain, folder):
     return results, times
 
 
+def first_page(run):
+    """The page of a calendar that is set up."""
+    with run.connect() as line:
+        line.sendall(b'POST /setup HTTP/1.0\r\n\r\n')
+        line.recv(1)
+    with urllib.request.urlopen(run.address('/'), timeout=WAIT) as answer:
+        return answer.read()
+
+
 def walk_in_turn(program, folder):
     """What a walk of two browsers lacks, and the seconds of each click; none, where a browser can't take one."""
     with served(PROGRAM, 'app', 10000, os.path.join(TOP, 'examples', 'calendar'), ('--sessions', 'sessions')) as run:
-        with run.connect() as line:
-            line.sendall(b'POST /setup HTTP/1.0\r\n\r\n')
-            line.recv(1)
-        with urllib.request.urlopen(run.address('/'), timeout=WAIT) as answer:
-            page = answer.read()
-        with contextlib.closing(Plain(page)) as plain:
-            try:
+        try:
+            with contextlib.closing(Plain(first_page(run))) as plain:
                 return two_people(program, run, plain, folder)
-            except Broken as broken:
-                print('two browsers: %s' % broken, flush=True)
-                return [], []
+        except (Broken, OSError) as broken:
+            print('two browsers: %s' % broken, flush=True)
+            return [], []
 
 
 def in_turn(program, folder):
