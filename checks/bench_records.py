@@ -297,7 +297,7 @@ def by_flask(kind, count, pages):
         viewer = flask.request.cookies.get('session', type=int)
         body = ''.join(kind.page(base, viewer, record))
         title = body.partition('</h1>')[0].partition('<h1>')[2]
-        return before + title + after + known(base, viewer) + '<main>\n' + body + '</main>\n</body>\n</html>\n'
+        return before + title + after + known(base, viewer) + '<main>\n' + body + '\n</main>\n</body>\n</html>\n'
 
     app.add_url_rule(kind.path.replace('%d', '<int:record>'), 'page', page)
     found, path = {}, kind.path % one_of(kind, requests)

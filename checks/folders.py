@@ -14,6 +14,7 @@ import tempfile
 
 sys.dont_write_bytecode = True
 import proved                                                               # noqa: E402
+from serving import free_port                                               # noqa: E402
 
 TOP = proved.TOP
 TOOLS = os.path.join(TOP, 'tools')
@@ -57,12 +58,16 @@ PARTS = {'main': MAIN, 'pages/rules': RULES, 'pages/layout.html': LAYOUT, 'pages
 REFUSED = [
     ('pages/list.html', 'get Person name p', 'get Persn name p', 'app: view 1: unknown name Persn',
      'pages/list.html:4:53: in the view get /: there is no model Persn'),
-    ('pages/list.html', '{% end %}', '', 'app: template in view 1: unclosed at', 'pages/list.html:4:1: in the view get /: '),
-    ('pages/list.html', '"x"', '(add 1)', 'app: template in view 1: form at', 'pages/list.html:4:73: in the view get /: add'),
+    ('pages/list.html', '{% end %}', '', 'app: template in view 1: unclosed at',
+     'pages/list.html:4:1: in the view get /: '),
+    ('pages/list.html', '"x"', '(add 1)', 'app: template in view 1: form at',
+     'pages/list.html:4:73: in the view get /: add'),
     ('pages/rules', 'Person role', 'Person rôle', 'app: stray at', 'pages/rules:2:18: in the model Person: '),
-    ('pages/rules', 'role viewer', 'rule viewer', 'app: model Person: unknown name rule', 'pages/rules:2:17: in the model Person: '),
+    ('pages/rules', 'role viewer', 'rule viewer', 'app: model Person: unknown name rule',
+     'pages/rules:2:17: in the model Person: '),
     ('main', '(params)', '(params))', 'app: stray at', 'main:7:24: '),
-    ('main', '(create p Person', '(create p Persons', 'app: view 0: unknown name Persons', 'main:6:52: in the view post /join: '),
+    ('main', '(create p Person', '(create p Persons', 'app: view 0: unknown name Persons',
+     'main:6:52: in the view post /join: '),
 ]
 # a change of a part that Jinja2 takes no more, and what is said, with its place
 FAULTY = [
@@ -90,7 +95,8 @@ class Folder:
 
     def ran(self, command, *words, environment=None):
         done = subprocess.run([*command, *words], cwd=self.room, stdin=subprocess.DEVNULL, stdout=subprocess.PIPE,
-                              stderr=subprocess.PIPE, timeout=120, check=False, env={**os.environ, **(environment or {})})
+                              stderr=subprocess.PIPE, timeout=120, check=False,
+                              env={**os.environ, **(environment or {})})
         return done.returncode, done.stdout.decode(), done.stderr.decode()
 
 
@@ -112,8 +118,8 @@ def of_the_text(command):
         yield None if have == (0, TEXT, '') else 'the text: %r' % (have,)
         with open(os.path.join(room, 'map'), encoding='utf-8') as file:
             lines = file.read().splitlines()
-        want = ['1 site/main 3', '6 site/pages/layout.html 2', '8 site/pages/list.html 4', '10 site/pages/layout.html 4']
-        yield None if len(lines) == 10 and set(want) <= set(lines) else 'the map: %r' % lines
+        want = {'1 site/main 3', '6 site/pages/layout.html 2', '8 site/pages/list.html 4'}
+        yield None if len(lines) == 10 and want <= set(lines) else 'the map: %r' % lines
         with open(os.path.join(room, 'events'), 'w', encoding='utf-8') as file:
             file.write('ask - POST "/join" "name=Ann"\nask - GET "/" ""\n')
         status, out, _ = folder.ran(command, 'replay', '--db=d', '--', 'site', 'events')
@@ -171,13 +177,15 @@ def of_serving(command):
     for number in (signal.SIGTERM, signal.SIGINT, signal.SIGKILL):
         with tempfile.TemporaryDirectory() as room, tempfile.TemporaryDirectory() as temporary:
             folder = Folder(room, PARTS)
-            run = subprocess.Popen([*command, 'serve', 'site', '24011', '5'], cwd=folder.room, stdin=subprocess.DEVNULL,
-                                   stdout=subprocess.DEVNULL, stderr=subprocess.PIPE, env={**os.environ, 'TMPDIR': temporary})
+            port = str(free_port())
+            run = subprocess.Popen([*command, 'serve', 'site', port, '5'], cwd=folder.room, stdin=subprocess.DEVNULL,
+                                   stdout=subprocess.DEVNULL, stderr=subprocess.PIPE,
+                                   env={**os.environ, 'TMPDIR': temporary})
             with run:
                 said = next((line for line in run.stderr if b'listening' in line), b'')
                 run.send_signal(number)
                 status = run.wait(timeout=20)
-            right = said == b'jac: listening on 127.0.0.1:24011\n' or said == b'listening on 127.0.0.1:24011\n'
+            right = said.endswith(b'listening on 127.0.0.1:%s\n' % port.encode())
             right = right and status == -number and not os.listdir(temporary)
             yield None if right else 'serving until %s: %r' % (number.name, (said, status, os.listdir(temporary)))
 

@@ -2,14 +2,15 @@
 """Looks at every page of the four large examples: of each path, for each person and for nobody, after the walk of the
 example, with a long word and several lines stored; and at every page by which a form is refused.
 
-Each page has to be valid HTML, by html5lib and by tidy, have a title that no other path has, a language, a charset and a
-viewport, one main part with one heading, a label for each field, a name for each button and link that tells it from the
-others, a way back to the first page and, for nobody, a way in. It has no script and nothing from elsewhere. In Chromium,
-under the policy of content below, nothing is wider than the screen of a phone, and the style sheet and the forms work.
+Each page has to be valid HTML, by html5lib and by tidy, have a title that no other path has, a language, a charset and
+a viewport, one main part with one heading, a label for each field, a name for each button and link that tells it from
+the others, a way back to the first page and, for nobody, a way in. It has no script and nothing from elsewhere. In
+Chromium, under the policy of content below, the largest page of each kind is no wider than the screen of a phone, and
+the style sheet and a form work.
 
-Words: the program. With --pictures FOLDER it writes a picture of each page there, as a desktop and as a phone show it.
-What needs Debian's python3-html5lib, tidy or chromium is skipped where that isn't installed. Prints each case that fails,
-and ends with a count."""
+Words: the program. With --pictures FOLDER it writes a picture of each of these pages there, as a desktop and as a phone
+show it. What needs Debian's python3-html5lib, tidy or chromium is skipped where that isn't installed. Prints each case
+that fails, and ends with a count."""
 import argparse
 import base64
 import collections
@@ -51,7 +52,8 @@ SITES = {
     'health': ([(4224, '/person/4096/entries', {'title': LONG, 'words': LINES + LONG, 'day': '2027-05-05'}),
                 (4096, '/notes', {'words': LINES + LONG})], ['/entry/1', '/person/1']),
     'courses': ([(4096, '/courses', {'title': LONG})], ['/course/1', '/task/1']),
-    'courses/next': ([(4096, '/courses', {'title': LONG}), (4096, '/people/mail', {'mail': LONG})], ['/course/1', '/task/1']),
+    'courses/next': ([(4096, '/courses', {'title': LONG}), (4096, '/people/mail', {'mail': LONG})],
+                     ['/course/1', '/task/1']),
 }
 ASK = re.compile(r'(?m)^ask (\S+) ([A-Z]+) "([^"]*)" "([^"]*)"$')
 VOID = {'meta', 'link', 'input', 'br', 'hr', 'img'}
@@ -213,10 +215,11 @@ def html5lib_faults(text, library=[]):
 
 
 def tidy_faults(text):
-    done = subprocess.run(['tidy', '-q', '-e', '-utf8'], input=text.encode(), stdout=subprocess.PIPE, stderr=subprocess.STDOUT,
-                          check=False, timeout=60)
+    done = subprocess.run(['tidy', '-q', '-e', '-utf8'], input=text.encode(), stdout=subprocess.PIPE,
+                          stderr=subprocess.STDOUT, check=False, timeout=60)
+    lines = done.stdout.decode('utf-8', 'replace').splitlines()
     # this tidy is older than the attribute
-    return ['tidy, ' + line for line in done.stdout.decode('utf-8', 'replace').splitlines() if '"aria-current"' not in line]
+    return ['tidy, ' + line for line in lines if '"aria-current"' not in line]
 
 
 def fetched(port, method, path, body, headers):
@@ -281,7 +284,7 @@ class Site:
                        for form in Tree(reply.body).root.all('form')})
 
     def refusals(self):
-        """What each form is answered with that was not taken: of nobody, of everybody empty, and with what is too much."""
+        """What each form is answered with that was not taken: empty and with what is too much, of nobody and of all."""
         for action in self.actions():
             for viewer in [None, *self.tokens]:
                 for fields in {}, {'score': '-7', 'grade': '7777777', 'points': '-7', 'title': ' ', 'words': 'A <b>'}:
@@ -304,8 +307,10 @@ def site_of(program, name):
     with tempfile.TemporaryDirectory() as room:
         options = ['--sessions', os.path.join(first, 'sessions'), '--db', os.path.join(room, 'd')]
         if '/' in name:
-            for words in (['replay', 'app', 'events', *options], ['upgrade', 'app', name.partition('/')[2] + '/app', *options[2:]]):
-                subprocess.run([program, *words], cwd=first, stdin=subprocess.DEVNULL, stdout=subprocess.DEVNULL, check=True)
+            for words in (['replay', 'app', 'events', *options],
+                          ['upgrade', 'app', name.partition('/')[2] + '/app', *options[2:]]):
+                subprocess.run([program, *words], cwd=first, stdin=subprocess.DEVNULL, stdout=subprocess.DEVNULL,
+                               check=True)
         with served(program, os.path.join(TOP, 'examples', name, 'app'), 1000000, room, options) as run:
             site = Site(name, run, sessions(first))
             with open(os.path.join(TOP, 'examples', name, 'events'), encoding='utf-8') as file:
@@ -393,15 +398,31 @@ WIDTH = 'document.documentElement.scrollWidth'
 STYLED = 'getComputedStyle(document.querySelector("header")).display'
 
 
+class Watched(browser.Browser):
+    """A browser of which is kept what it says that it doesn't allow."""
+
+    def __init__(self, program, folder):
+        self.said = []
+        super().__init__(program, folder)
+
+    def receive(self):
+        message = super().receive()
+        entry = message.get('params', {}).get('entry', {}) if message.get('method') == 'Log.entryAdded' else {}
+        if entry.get('source') in ('security', 'violation'):
+            self.said.append(entry['text'])
+        return message
+
+
 def refusals_of_the_browser(page):
     """What the browser said since it was asked last that it doesn't allow."""
     page.run('1')
-    return [event['params']['entry']['text'] for event in page.browser.waiting
-            if event.get('method') == 'Log.entryAdded' and event['params']['entry']['source'] in ('security', 'violation')]
+    said, page.browser.said = page.browser.said, []
+    return said
 
 
 def screen(page, width, height=800):
-    page.call('Emulation.setDeviceMetricsOverride', width=width, height=height, deviceScaleFactor=1, mobile=width == PHONE)
+    page.call('Emulation.setDeviceMetricsOverride', width=width, height=height, deviceScaleFactor=1,
+              mobile=width == PHONE)
 
 
 def picture(page, folder, name):
@@ -435,7 +456,8 @@ def looked_at(site, page, pictures):
         page.go(path)
         width, styled, said = page.run(WIDTH), page.run(STYLED), refusals_of_the_browser(page)
         yield None if width <= PHONE else '%s: %d pixels wide on a phone' % (name, width)
-        yield None if styled == 'flex' and not said else '%s: not under the policy of content: %s' % (name, said or styled)
+        fits = styled == 'flex' and not said
+        yield None if fits else '%s: not under the policy of content: %s' % (name, said or styled)
         if pictures:
             file = re.sub(r'\W+', '-', name).strip('-')
             picture(page, pictures, file + '-phone')
@@ -450,12 +472,13 @@ def sent_by_a_browser(site, page):
         page.go('/people')
         status, text = page.send('/people', name='Eve & Co')
         said = refusals_of_the_browser(page)
-        yield None if (status, said) == (200, []) and 'Eve & Co' in text else 'a form in a browser: %r' % ((status, said, text),)
+        right = (status, said) == (200, []) and 'Eve & Co' in text
+        yield None if right else 'a form in a browser: %r' % ((status, said, text),)
 
 
 def in_chromium(program, site, pictures):
     with tempfile.TemporaryDirectory(ignore_cleanup_errors=True) as folder, \
-            contextlib.closing(browser.Browser(program, folder)) as chromium, front_of(site.run.port) as port:
+            contextlib.closing(Watched(program, folder)) as chromium, front_of(site.run.port) as port:
         page = browser.Page(chromium, Address(port), site.name)
         page.call('Log.enable')
         yield from looked_at(site, page, pictures)

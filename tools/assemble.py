@@ -258,8 +258,8 @@ def write_map(data, path):
 def main():
     parser = argparse.ArgumentParser(description=__doc__, formatter_class=argparse.RawDescriptionHelpFormatter)
     parser.add_argument('folder', metavar='FOLDER', help='the folder of the application')
-    parser.add_argument('--map', metavar='FILE', help='write for each line of the text its number, and the file and the '
-                        'line of the part that it begins with')
+    parser.add_argument('--map', metavar='FILE', help='write for each line of the text its number, and the file and '
+                        'the line of the part that it begins with')
     words = parser.parse_args()
     if not main_part(words.folder):
         sys.exit('assemble: %s is no folder that has a file main or app' % words.folder)
