@@ -41,6 +41,20 @@ TURNED = [
      '"/notes" (params (title text) (words text) (shared bool))\n  (if true',
      'as nobody POST /notes title=Spam -> 404'),
 ]
+# what README.md says to change first: a field, who reads it
+FIELD = [
+    ('main', '(shared bool))\n  (group', '(shared bool) (day text))\n  (group'),
+    ('main', '"/notes" (params (title text) (words text) (shared bool))',
+     '"/notes" (params (title text) (words text) (shared bool) (day text))'),
+    ('main', '(owner viewer) (shared shared))', '(owner viewer) (shared shared) (day day))'),
+    ('pages/forms.html', '<button>', '<label>Day <input name="day" type="date"></label>\n<button>'),
+    ('pages/note.html', '<p>By', '<p>{{ (get Note day id) }}</p>\n<p>By'),
+    ('walk', 'words="Buy the boat." ->', 'words="Buy the boat." day=2027-03-01 ->'),
+    ('walk', 'has "Plan" "Buy the boat." "Let', 'has "2027-03-01" "Plan" "Buy the boat." "Let'),
+]
+UNREAD = [('walk', 'lacks "Plan" "boat" "Let', 'lacks "2027-03-01" "Plan" "boat" "Let')]
+GROUP = '(group (guards (day "")) (policy (and (live viewer) (eq (get Note owner this) viewer))))'
+GUARDED = [('main', ' viewer))))))\n', ' viewer)))))\n  %s)\n' % GROUP)]
 
 
 def run(words, folder=TOP):
@@ -150,6 +164,37 @@ def of_turned(folder):
         file.write(text)
 
 
+def change(folder, edits):
+    """Makes the edits, each of a text that is in its file once; says which is none."""
+    for name, old, new in edits:
+        path = os.path.join(folder, name)
+        with open(path, encoding='utf-8') as file:
+            text = file.read()
+        if text.count(old) != 1:
+            return '%s has %r %d times' % (name, old, text.count(old))
+        with open(path, 'w', encoding='utf-8') as file:
+            file.write(text.replace(old, new))
+    return None
+
+
+def of_changes(folder, copy):
+    """What is wrong with the changes that README.md begins with, and with the records of before."""
+    with open(os.path.join(folder, 'README.md'), encoding='utf-8') as file:
+        yield None if GROUP in file.read() else 'README.md has another group'
+    with open(os.path.join(folder, 'events'), 'w', encoding='utf-8') as file:
+        file.write('ask - POST "/setup" ""\nask 4096 POST "/notes" "title=Plan"\n')
+    store = ['--db', os.path.join(folder, 'store')]
+    run([*START, 'replay', '.', 'events', *store], folder)
+    shutil.copytree(folder, copy)
+    for edits, want in ((FIELD, 'all met'), (UNREAD, 'lacks "2027-03-01"'), (GUARDED, 'all met')):
+        wrong = change(folder, edits)
+        status, out = run([*WALK, '.'], folder)
+        right = status == (0 if want == 'all met' else 1) and want in out
+        yield wrong if wrong else None if right else 'a change of %s: %d, %s' % (edits, status, out)
+    status, out = run([*START, 'upgrade', copy, '.', *store], folder)
+    yield None if status == 0 and 'upgraded 3 records' in out else 'the upgrade: %d, %s' % (status, out)
+
+
 def of_markup(folder):
     """What tidy says against the pages that the walk is answered with."""
     events = os.path.join(folder, 'events')
@@ -172,9 +217,9 @@ def main():
         results = [*of_making(folder)]
         if has_jinja():
             results += [*of_readme(folder), *of_turned(folder), *of_serving(folder)]
-            if shutil.which('tidy'):
-                results += [*of_markup(folder)]
-            else:
+            results += of_markup(folder) if shutil.which('tidy') else []
+            results += of_changes(folder, os.path.join(room, 'copy'))
+            if not shutil.which('tidy'):
                 skipped = 1
                 print('SKIPPED whether the pages are HTML, since tidy is not installed')
         else:

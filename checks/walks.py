@@ -5,7 +5,9 @@ each that is wrong, and ends with a count.
 Of each walk of an example copies are made in which all statuses, all texts or all labels are turned: `has` to `lacks`,
 `shows` to `hides`, a status to another one. Each of the lines has to be reported. Walks without a form, or with words
 that mean nothing in their application, have to be refused with their line and exit status 2."""
+import contextlib
 import glob
+import io
 import os
 import re
 import subprocess
@@ -19,6 +21,9 @@ from pages import TOP, read                                                 # no
 
 PROGRAM = proved.program(sys.argv[1])
 TOOL = os.path.join(TOP, 'tools', 'walk.py')
+sys.path.insert(0, os.path.join(TOP, 'tools'))
+import walk                                                                 # noqa: E402
+
 SUMMARY = re.compile(r'(\d+) steps, (\d+) expectations after them, (?:(\d+) not met|all met)\n$')
 QUOTED = re.compile(r'"(?:[^"\\]|\\.)*"')
 # the line of the file, and the words that were expected or are shown
@@ -126,6 +131,7 @@ REFUSED = {
     'an unknown word': ('as ann GET /\n  hass "x"\n', 2, 'not with hass: is has meant?'),
     'a request without who asks': ('GET /\n', 1, 'a request begins with who asks: as nobody GET'),
     'nobody of that name': ('as anne GET /\n', 1, 'nothing is called anne: is ann meant?'),
+    'a record that is no viewer': (JOINED + 'as card GET /\n', 4, 'card is a Card, and a viewer is a User'),
     'a record of no name': ('as ann GET /card/{card}\n', 1, 'nothing is called card'),
     'an expectation before a request': ('\n# none\nhas "x"\n', 3, 'there is no request before it'),
     'a text without quotes': ('as ann GET /\n has x\n', 2, 'a text in quotes is expected, and not x'),
@@ -157,8 +163,22 @@ REFUSED = {
 
 
 def walked(words, folder=TOP):
+    """The exit status of a walk and what it says. It is gone in this process, which is quicker than one of its own."""
+    out = io.StringIO()
+    argv, sys.argv = sys.argv, ['walk.py', '--program', PROGRAM, *words]
+    os.chdir(folder)
+    try:
+        with contextlib.redirect_stdout(out):
+            return walk.main(), out.getvalue()
+    finally:
+        os.chdir(TOP)
+        sys.argv = argv
+
+
+def run(words, folder):
+    """The same by a process of its own."""
     done = subprocess.run([sys.executable, TOOL, '--program', PROGRAM, *words], cwd=folder, stdin=subprocess.DEVNULL,
-                          stdout=subprocess.PIPE, stderr=subprocess.STDOUT, timeout=300, check=False)
+                          stdout=subprocess.PIPE, stderr=subprocess.STDOUT, timeout=900, check=False)
     return done.returncode, done.stdout.decode()
 
 
@@ -200,8 +220,25 @@ def of_small_walks():
     status, out = over('as ann GET /\n', APP.replace('(put "gone")', '(putt "gone")'))
     right = status == 2 and 'app is refused' in out
     yield None if right else 'an application that is refused: %d, %s' % (status, out)
-    status, out = walked(['--help'])
+
+
+def of_processes():
+    """What a process says and ends with: 0, 1 and 2, and the help."""
+    status, out = run(['--help'], TOP)
     yield None if status == 0 and out.startswith('usage: walk') else '--help: %d, %s' % (status, out)
+    with tempfile.TemporaryDirectory() as folder:
+        put(folder, {'app': APP, 'walk': 'as nobody GET / -> 200\n', 'one.walk': 'as nobody GET /none -> 404\n'})
+        status, out = run(['app'], folder)
+        yield None if (status, out.count('all met')) == (0, 2) else 'two walks: %d, %s' % (status, out)
+        put(folder, {'two.walk': 'as nobody GET / -> 404\n'})
+        status, out = run(['app', 'two.walk', '--events', 'events'], folder)
+        right = status == 1 and open(os.path.join(folder, 'events'), encoding='utf-8').read() == 'ask - GET "/" ""\n'
+        yield None if right else 'a walk that fails, with its events: %d, %s' % (status, out)
+        status, out = run(['app', 'none.walk'], folder)
+        yield None if status == 2 and 'cannot be read' in out else 'no walk: %d, %s' % (status, out)
+        os.remove(os.path.join(folder, 'walk'))
+        status, out = run(['app', '--verbose'], folder)
+        yield None if status == 1 and '    200\n' in out and '    404\n' in out else '--verbose: %d, %s' % (status, out)
 
 
 def of_examples():
@@ -302,7 +339,7 @@ def of_pages():
 
 
 def main():
-    results = [*of_small_walks(), *of_examples(), *of_pages()]
+    results = [*of_small_walks(), *of_processes(), *of_examples(), *of_pages()]
     for wrong in filter(None, results):
         print('FAILED ' + wrong)
     failed = sum(1 for wrong in results if wrong)

@@ -60,7 +60,7 @@ class Application:
         checker = finger.Checker(finger.read_tree(data, list(range(len(data) + 1))))
         self.fields = [[field.children[0].value for field in finger.fields_in(model).children[1:]]
                        for model in checker.models]
-        self.params = {}
+        self.viewer, self.params = checker.viewer.value if checker.viewer else None, {}
         for view in checker.views:
             names = [param.children[0].value for param in view.children[3].children[1:]]
             self.params.setdefault(view.children[1].value.upper(), set()).update(names)
@@ -82,8 +82,13 @@ class Application:
 
 
 class Reply:
-    def __init__(self, status, location, body, labels):
-        self.status, self.location, self.body, self.labels = status, location, body, labels
+    """A reply, and the labels of its audit's line; none where there was no page."""
+
+    def __init__(self, found, shown):
+        location, body = (plain(part).decode(errors='replace') for part in found.groups()[1:])
+        self.status, self.location, self.body = int(found[1]), location, body
+        self.is_page = shown != 'nopage'
+        self.labels = [] if shown in ('-', 'nopage') else [int(label) for label in shown.split(',')]
 
     def line(self):
         return '%d %s' % (self.status, self.location) if self.location else str(self.status)
@@ -115,32 +120,34 @@ class Store:
             raise Stopped('%s ended with status %d:\n%s' % (words[0], done.returncode, said))
         return done.stdout
 
-    def ask(self, application, viewer, method, target, body):
-        self.asked.append('ask %s %s "%s" "%s"\n' % (viewer, method, quoted(target), quoted(body)))
+    def ask(self, application, requests):
+        """The replies to these requests, which are lines of events."""
+        self.asked += requests
         with open(self.path('events'), 'w', encoding='utf-8', newline='\n') as file:
-            file.write(self.asked[-1])
+            file.writelines(requests)
         with contextlib.suppress(FileNotFoundError):
             os.remove(self.path('audit'))
         out = self.run(['replay', application.path, self.path('events'), '--db', self.file,
                         '--audit', self.path('audit')])
-        found = REPLY.fullmatch(out)
-        if not found:
-            raise Stopped('this is no reply: %r' % out[:200])
+        found = [REPLY.fullmatch(line) for line in out.splitlines(keepends=True)]
+        if len(found) != len(requests) or not all(found):
+            raise Stopped('these are no replies to %d requests: %r' % (len(requests), out[-200:]))
         with open(self.path('audit'), encoding='ascii') as file:
-            shown = file.read().split()[3]
-        labels = [] if shown in ('-', 'nopage') else [int(label) for label in shown.split(',')]
-        location, text = (plain(part).decode(errors='replace') for part in found.groups()[1:])
-        return Reply(int(found[1]), location, text, labels)
+            return [Reply(reply, line.split()[3]) for reply, line in zip(found, file)]
 
-    def records(self):
-        """The ids of all records that have a row."""
-        if not os.path.exists(self.file):
-            return set()
+    def last_made(self):
+        """The ids of the records that the last request made which had a number."""
         with contextlib.closing(sqlite3.connect(self.file)) as base:
-            return {int.from_bytes(row[0], 'big') for row in base.execute('SELECT DISTINCT jid FROM rec')}
+            number = base.execute('SELECT number FROM meta').fetchone()[0] - 1
+            found = [int.from_bytes(row[0], 'big') for row in base.execute('SELECT DISTINCT jid FROM rec')]
+        return [record for record in found if record % audit.LOOP // 4096 == number]
 
     def upgrade(self, old, new):
         self.run(['upgrade', old.path, new.path, '--db', self.file])
+
+
+def event(viewer, method, target, body):
+    return 'ask %s %s "%s" "%s"\n' % (viewer, method, quoted(target), quoted(body))
 
 
 def in_order(numbers):
@@ -160,24 +167,50 @@ class Walk:
         self.application, self.sessions, self.store = application, sessions, store
         self.ids = {name: number for name, number in sessions.items() if number != '-'}
         self.failures, self.steps, self.reply, self.who = [], 0, None, None
+        self.waiting, self.told_of = [], None
 
     def fail(self, place, source, words):
         self.failures.append('%s:%d: %s\n%s' % (*place, source, '\n'.join('    ' + line for line in words)))
 
-    def go(self, steps, told=None):
+    def go(self, steps, told_of=None):
+        """Goes the steps. Requests wait until something has to be known of a reply, and are then asked in one run."""
+        self.told_of = told_of
         for step in steps:
             lacking = [name for name in self.names(step) if name not in self.ids and self.sessions.get(name) != '-']
+            if lacking or step.kind != 'as':
+                self.answer()
             if lacking:
                 self.fail(step.place, step.source, ['no record is called %s, since the request that should have made '
                                                     'it made none; the walk ends here' % lacking[0]])
                 return
             self.steps += 1
-            if step.kind == 'upgrade':
-                self.upgrade(step)
-                continue
-            self.ask(step)
-            if told:
-                told(self, step)
+            self.step(step)
+        self.answer()
+
+    def step(self, step):
+        if step.kind == 'upgrade':
+            self.upgrade(step)
+            return
+        try:
+            self.waiting.append((step, self.followed(step) if step.kind == 'follow' else self.request(step)))
+        except Malformed:
+            self.answer()
+            raise
+        if step.gives:
+            self.answer()
+
+    def answer(self):
+        """Has the requests answered that wait, and compares each reply with what is expected of it."""
+        waiting, self.waiting = self.waiting, []
+        if not waiting:
+            return
+        replies = self.store.ask(self.application, [request for _, request in waiting])
+        for (step, _), self.reply in zip(waiting, replies):
+            if step.gives:
+                is_made = step.method == 'POST' and self.reply.is_page
+                self.name(step, in_order(self.store.last_made() if is_made else []))
+            if self.told_of:
+                self.told_of(self, step)
             self.judge(step)
 
     @staticmethod
@@ -190,29 +223,34 @@ class Walk:
         names += [step.who] if step.who not in (None, 'nobody') else []
         return [name for name in names if name not in step.gives]
 
-    def ask(self, step):
-        before = self.store.records() if step.gives else set()
-        if step.kind == 'follow':
-            self.follow(step)
-        else:
-            self.who = self.sessions.get(step.who) or self.ids.get(step.who, '-')
-            known = self.application.params.get('GET' if step.method == 'HEAD' else step.method, set())
-            for name, _ in step.fields:
-                if name not in known:
-                    raise Malformed(step.place, 'no view of %s has a parameter %s%s'
-                                    % (step.method, name, walk_file.meant(name, sorted(known))))
-            target = address(step.target.text(self.ids))
-            form = urllib.parse.urlencode([(name, word.text(self.ids)) for name, word in step.fields])
-            if step.method != 'POST' and form:
-                target, form = target + ('&' if '?' in target else '?') + form, ''
-            self.reply = self.store.ask(self.application, self.who, step.method, target, form)
-        if step.gives:
-            self.name(step, in_order(self.store.records() - before))
+    def request(self, step):
+        """The line of events that a step is."""
+        self.who = self.viewer(step)
+        known = self.application.params.get('GET' if step.method == 'HEAD' else step.method, set())
+        for name, _ in step.fields:
+            if name not in known:
+                raise Malformed(step.place, 'no view of %s has a parameter %s%s'
+                                % (step.method, name, walk_file.meant(name, sorted(known))))
+        target = address(step.target.text(self.ids))
+        form = urllib.parse.urlencode([(name, word.text(self.ids)) for name, word in step.fields])
+        if step.method != 'POST' and form:
+            target, form = target + ('&' if '?' in target else '?') + form, ''
+        return event(self.who, step.method, target, form)
 
-    def follow(self, step):
+    def viewer(self, step):
+        """The number of who asks, as events have it."""
+        who = self.sessions.get(step.who) or self.ids.get(step.who, '-')
+        model = self.application.models[who % 64] if who != '-' and who % 64 < len(self.application.models) else None
+        if model != self.application.viewer and step.who in self.ids and step.who not in self.sessions:
+            viewers = 'a viewer is a ' + self.application.viewer if self.application.viewer else 'there are no viewers'
+            raise Malformed(step.place, '%s is a %s, and %s' % (step.who, model, viewers))
+        return who
+
+    def followed(self, step):
+        """The line of events that asks for the location of the last reply."""
         if not self.reply.location.startswith('/'):
             raise Malformed(step.place, 'the reply before has no location of this application: %s' % self.reply.line())
-        self.reply = self.store.ask(self.application, self.who, 'GET', self.reply.location, '')
+        return event(self.who, 'GET', self.reply.location, '')
 
     def name(self, step, made):
         """Gives the names of a step to the records that it made."""
@@ -402,6 +440,8 @@ def main():
         print(fault)
     except (Stopped, assemble.Fault, OSError) as fault:
         print('walk: %s' % fault)
+    except KeyboardInterrupt:
+        print('walk: interrupted', file=sys.stderr)
     return 2
 
 
