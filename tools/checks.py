@@ -26,7 +26,7 @@ from installed import SKIPPED, missing, told                                # no
 LIST = os.path.join(CHECKS, 'list.txt')
 TAIL = 40                           # lines of a failed check that are printed
 COUNT = re.compile(r'(?m)^(\d+) passed, (\d+) failed(?:, (\d+) skipped)?$')
-PART = re.compile(r'(?m)^skipped:? (.*)$')
+PART = re.compile(r'(?im)^skipped[:,]? (.*)$')
 FAULT = 70                          # the status where there is no program to check
 
 Check = collections.namedtuple('Check', 'name words needs seconds alone about')     # a line of the list
@@ -60,7 +60,7 @@ def read_list():
 def print_list(checks):
     for check in checks:
         needs = ', '.join('/'.join(names) for names in check.needs)
-        print('%-10s %3d s%s  %s%s' % (check.name, check.seconds, ', alone' if check.alone else '       ', check.about,
+        print('%-13s %3d s%s  %s%s' % (check.name, check.seconds, ', alone' if check.alone else '       ', check.about,
                                        ' (needs %s)' % needs if needs else ''))
 
 
@@ -163,7 +163,7 @@ class Report:
 
     def line(self, how, name, took, text):
         self.counts[how] += 1
-        print(('%-8s %-10s %8s  %s' % (how, name, took, text)).rstrip(), flush=True)
+        print(('%-8s %-13s %8s  %s' % (how, name, took, text)).rstrip(), flush=True)
 
     def skip(self, name, why):
         self.line('skipped', name, '', why)
