@@ -5,6 +5,7 @@ name, the exit statuses, and that `jac serve` of a folder ends as the program do
 Words: the script `jac`, or a program that `tools/run_folder.py` is to run. Without Jinja2 all is skipped but what is
 said where it is missing. Prints each case that fails, and ends with a count."""
 import argparse
+import filecmp
 import glob
 import os
 import signal
@@ -202,6 +203,19 @@ def of_the_examples():
             'python3 tools/assemble.py %s > %s/app' % (name, name, name)
 
 
+# The parts that the next version of the courses takes from the first as they are.
+COPIES = ('first/course.html', 'first/export.html', 'first/forms.html', 'first/people.html', 'first/task.html',
+          'courses.html', 'layout.html', 'login.html', 'none.html', 'refused.html', 'rules', 'style.css')
+
+
+def of_the_copies():
+    """The parts that two versions of an example share are the same."""
+    first, second = (os.path.join(TOP, 'examples', name, 'pages') for name in ('courses', 'courses/next'))
+    for name in COPIES:
+        own, copy = os.path.join(first, os.path.basename(name)), os.path.join(second, name)
+        yield None if filecmp.cmp(own, copy, shallow=False) else '%s is not the same as %s' % (copy, own)
+
+
 def has_jinja():
     try:
         return bool(assemble.jinja('examples'))
@@ -216,7 +230,7 @@ def main():
     command = [program] if proved.is_script(program) else [*script('run_folder.py'), program]
     results, skipped = list(of_lacking_jinja(command)), 0
     parts = [lambda: of_the_text(command), lambda: of_the_finger(command), lambda: of_faults(command),
-             lambda: of_serving(command), of_the_examples]
+             lambda: of_serving(command), of_the_examples, of_the_copies]
     if has_jinja():
         results += [result for part in parts for result in part()]
     else:
