@@ -152,6 +152,7 @@ REFUSED = {
                                     'the town of a Card is not guarded'),
     'a field that is none': (JOINED + 'as ann GET /\n shows card.phon\n', 5,
                              'a Card has no field phon: is phone meant?'),
+    'a label of no record': ('as ann GET /\n shows raid.title\n', 2, 'nothing is called raid'),
     'a record that no group hides': (JOINED + 'as ann GET /\n shows card\n', 5, 'no group hides a Card'),
     'a label that is none': (JOINED + 'as ann GET /\n shows "card"\n', 5, 'a label is a record and a guarded field'),
     'a reply without a location': ('as ann GET /\nfollow\n', 2, 'has no location of this application'),
