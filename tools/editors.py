@@ -145,12 +145,11 @@ def rule(name, pattern):
     return {'name': name + '.jac', 'match': pattern}
 
 
-def textmate():
-    """The grammar; its expressions are such that Oniguruma and Python read them alike."""
-    words = {kind: '|'.join(found) for kind, found in {**table(), **split()}.items()}
+def form_rules(words):
+    """The rules for words of the language; their expressions are such that Oniguruma and Python read them alike."""
     end = '(?![A-Za-z0-9_-])'
     before = '(?<![A-Za-z0-9_(-])'
-    found = [
+    return [
         rule('storage.type.declaration', r'(?<=\()(?:%s)%s' % (words['declaration'], end)),
         rule('storage.modifier.mark', r'%s(?:%s)%s(?=\s*\()' % (before, words['mark'], end)),
         rule('storage.modifier.method', r'(?<=\(view )(?:%s)%s' % (words['method'], end)),
@@ -165,6 +164,11 @@ def textmate():
         rule('constant.language', r'%s(?:%s)%s' % (before, words['constant'], end)),
         rule('constant.numeric', r'(?<=[ \t(])-?[0-9]+(?=[ \t)]|$)'),
     ]
+
+
+def textmate():
+    """The grammar."""
+    words = {kind: '|'.join(found) for kind, found in {**table(), **split()}.items()}
     tags = [{'begin': opening, 'end': closing, 'name': 'meta.tag.template.jac',
              'beginCaptures': {'0': {'name': 'punctuation.section.embedded.jac'}},
              'endCaptures': {'0': {'name': 'punctuation.section.embedded.jac'}},
@@ -177,7 +181,7 @@ def textmate():
         'firstLineMatch': r'^\s*(\[#.*#\]\s*)?\(app\b',
         'patterns': [{'include': '#parts'}, {'include': '#texts'}, {'include': '#forms'}],
         'repository': {
-            'forms': {'patterns': found},
+            'forms': {'patterns': form_rules(words)},
             'texts': {'patterns': [
                 {'name': 'string.quoted.template.jac', 'begin': r'(?<=\(template )"', 'end': '"',
                  'patterns': [*tags, escape, rule('entity.name.tag.html', r'</?[A-Za-z][A-Za-z0-9]*')]},
