@@ -10,6 +10,7 @@ import glob
 import io
 import os
 import re
+import shutil
 import subprocess
 import sys
 import tempfile
@@ -309,12 +310,12 @@ def turned(text):
 def untold(application, path):
     """What isn't reported of a copy of a walk in which all is turned."""
     text, want = turned(read(path))
-    copy = os.path.join(TOP, os.path.dirname(path), 'turned%d.tmp' % os.getpid())
-    try:
-        put(TOP, {copy: text})
-        status, out = walked([application, copy])
-    finally:
-        os.remove(copy)
+    folder = os.path.dirname(path)
+    with tempfile.TemporaryDirectory() as room:
+        copy = os.path.join(room, 'copy')
+        shutil.copytree(os.path.join(TOP, folder), copy)
+        put(copy, {'turned': text})
+        status, out = walked([os.path.join(copy, os.path.relpath(application, folder)), os.path.join(copy, 'turned')])
     have = reported(out)
     lost = [(line, text) for line, said in want.items() for text in said if text not in have.get(line, '')]
     lost += [(line, 'nothing') for line in have if line not in want]
