@@ -1,7 +1,7 @@
 #!/usr/bin/env python3
 """Compares the page that tools/access_matrix.py writes of a store with what was written down here by hand: who is shown
-what, the reasons, that a store that is served is left alone, that nothing on the page is markup of the store, and that it
-has no value of what is guarded. Words: the program. Prints each that is wrong, and ends with a count."""
+what, the reasons, that a store that is served is left alone, that nothing on the page is markup of the store, and that
+it has no value of what is guarded. Words: the program. Prints each that is wrong, and ends with a count."""
 import html
 import os
 import re
@@ -28,8 +28,8 @@ APP = '''(app (viewer User)
 '''
 EVENTS = '''ask - POST "/join" "name=%3Cb%3EAnn&phone=555-1"
 ask - POST "/join" "name=Bob&phone=555-2"
-ask 4096 POST "/note" "head=subject&words=secret"
-ask 8192 POST "/note" "head=other&words=%3Copen%3E"
+ask 4096 POST "/note" "head=walrus&words=secret"
+ask 8192 POST "/note" "head=zebra&words=%3Copen%3E"
 '''
 # by viewer, and for each label whether it is shown
 ROWS = ['User 4096 “<b>Ann”: phone', 'User 8192 “Bob”: phone', 'Note 12289: words', 'Note 12289: the record',
@@ -59,7 +59,8 @@ def compared(folder):
     status, text, _ = page(folder, '--sessions', 'sessions')
     yield expect('a page', status, 0)
     yield expect('its cells', cells(text), (ROWS, SHOWN))
-    yield expect('no value of what is guarded', [word for word in ('secret', '555-', 'subject', 'other') if word in text], [])
+    yield expect('no value of what is guarded', [word for word in ('secret', '555-', 'subject',
+                                                                   'other') if word in text], [])
     yield expect('no markup of the store', ('<b>Ann' in text, '&lt;b&gt;Ann' in text), (False, True))
     reasons = dict(re.findall(r'(?s)<li id="r(\d+)"><code>(.*?)</code>', text))
     yield expect('the reasons that cells name', set(re.findall(r'href="#r(\d+)"', text)), set(reasons))
@@ -93,7 +94,8 @@ def main():
                        stdout=subprocess.DEVNULL, check=True)
         results = list(compared(folder))
         with served(PROGRAM, 'app', 1000, folder, ('--db', 'store.db')):
-            results.append(expect('while it is served', cells(page(folder, '--sessions', 'sessions')[1]), (ROWS, SHOWN)))
+            results.append(expect('while it is served', cells(page(folder, '--sessions', 'sessions')[1]), (ROWS,
+                                                                                                           SHOWN)))
         results += refused(folder)
     for wrong in filter(None, results):
         print('FAILED ' + wrong)

@@ -1,7 +1,8 @@
 #!/usr/bin/env python3
-"""Writes an application under `tools/dev.py`, as an editor and a browser would: saves texts that are right and texts that
-aren't, adds fields, changes who asks, and looks at what the bar says of labels. Meanwhile somebody asks for pages over
-and over, and none of these requests may fail. Words: the program. Prints each case that fails, and ends with a count."""
+"""Writes an application under `tools/dev.py`, as an editor and a browser would: saves texts that are right and texts
+that aren't, adds fields, changes who asks, and looks at what the bar says of labels. Meanwhile somebody asks for pages
+over and over, and none of these requests may fail. Words: the program. Prints each case that fails, and ends with a
+count."""
 import contextlib
 import http.client
 import os
@@ -56,7 +57,8 @@ class Writer:
         self.save('sessions', SESSIONS)
         self.save('app', text)
         with open(os.path.join(folder, 'told'), 'wb') as told:
-            self.run = subprocess.Popen([sys.executable, DEV, PROGRAM, 'app', str(self.port), '--sessions', 'sessions', *words],
+            self.run = subprocess.Popen([sys.executable, DEV, PROGRAM, 'app', str(self.port), '--sessions', 'sessions',
+                                         *words],
                                         cwd=folder, stdin=subprocess.DEVNULL, stdout=told, stderr=told,
                                         env={**os.environ, 'TMPDIR': self.room})
         self.until('it listens', lambda: is_listening(self.port))
@@ -190,7 +192,8 @@ def saves():
             run.saved(SECOND)
             yield has('the second text', run.page(), 'Edition two', but=['Edition one', 'is refused'])
             run.saved(WRONG)
-            yield has('a text that is wrong', run.page(), 'Edition two', 'is refused', 'app:10:42: in the view get /{a}: ',
+            yield has('a text that is wrong', run.page(), 'Edition two', 'is refused',
+                      'app:10:42: in the view get /{a}: ',
                       'nothing here is called aa', '(params (a text)) (esc aa))\n', ' ^^')
             yield has('it is told', run.told(), 'app:10:42: in the view get /{a}: ')
             run.saved(SECOND)
@@ -246,7 +249,8 @@ def viewers():
         yield has('another one asks', run.page(token='bob'), 'asked by <b>User 8192</b>', 'value="bob" selected',
                   '0 shown', '1 hidden', but=['a secret'])
         yield has('their labels', run.labels('bob'), 'Hidden, of this page', 'Note 12289 (made by POST 3): words',
-                  'by its own policy', 'app:4: (or (eq (get Note words this) &quot;&lt;i&gt;&quot;)', but=['<i>', 'Shown to'])
+                  'by its own policy', 'app:4: (or (eq (get Note words this) &quot;&lt;i&gt;&quot;)', but=['<i>',
+                                                                                                           'Shown to'])
         yield has('the owner\'s labels', run.labels('ann'), 'Shown to User 4096', 'Note 12289 (made by POST 3): words',
                   but=['Hidden, of this page'])
         yield has('a page without labels', run.labels('ann', '/plain'), 'nothing on this page is guarded')
@@ -254,7 +258,8 @@ def viewers():
         yield has('nobody asks again', reply[1]['Set-Cookie'], 'session=; Path=/;', 'Max-Age=0')
         yield expect('no such token', run.ask('POST', '/dev//as', {'token': 'x; y'})[0], 404)
         for back in '//evil.example/', 'http://evil.example/', '/\\evil.example', '/a\r\nb: c':
-            yield expect('back to %r' % back, run.ask('POST', '/dev//as', {'token': 'ann', 'back': back})[1]['Location'], '/')
+            yield expect('back to %r' % back, run.ask('POST', '/dev//as', {'token': 'ann',
+                                                                           'back': back})[1]['Location'], '/')
 
 
 def pages():
@@ -309,7 +314,8 @@ def beginnings():
         yield has('a file that is gone', run.page(), 'app can&#x27;t be read', 'app: No such file or directory')
         run.saved(APP)
         yield has('then right', run.page(), 'Edition one')
-        busy = subprocess.run([sys.executable, DEV, PROGRAM, 'app', str(run.port)], cwd=run.folder, stdin=subprocess.DEVNULL,
+        busy = subprocess.run([sys.executable, DEV, PROGRAM, 'app', str(run.port)], cwd=run.folder,
+                              stdin=subprocess.DEVNULL,
                               stdout=subprocess.PIPE, stderr=subprocess.STDOUT, timeout=WAIT, check=False)
         yield expect('a port that is taken', (busy.returncode, b'Address already in use' in busy.stdout), (1, True))
         children = children_of(run.run.pid)
@@ -321,9 +327,11 @@ def beginnings():
         with writer() as run:
             children = children_of(run.run.pid)
             yield expect('the status of the end', run.end(how), 128 + how)
-            yield expect('what is left', (os.listdir(run.room), [one for one in children if os.path.exists('/proc/%d' % one)]),
+            yield expect('what is left', (os.listdir(run.room),
+                                          [one for one in children if os.path.exists('/proc/%d' % one)]),
                          ([], []))
-    helped = subprocess.run([os.path.join(TOP, 'jac'), 'dev', '--help'], stdin=subprocess.DEVNULL, stdout=subprocess.PIPE,
+    helped = subprocess.run([os.path.join(TOP, 'jac'), 'dev', '--help'], stdin=subprocess.DEVNULL,
+                            stdout=subprocess.PIPE,
                             stderr=subprocess.PIPE, timeout=WAIT, check=False)
     yield expect('help', (helped.returncode, helped.stdout[:15], helped.stderr), (0, b'usage: jac dev ', b''))
 

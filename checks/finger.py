@@ -208,14 +208,17 @@ MESSAGES = [
     ('(app (model User (fields (name string))))', '1:32', 'here is the word string; is it text?'),
     ('(app\n (view get "/" (params)\n  (put "a"))\n  (put "b"))\n (view get "/b" (params)))', '3:12',
      'this bracket seems to be one too many'),
-    ('(app\n (view get "/" (params)\n  (if true\n   ((put "a")))\n    ((put "b")))\n (view get "/b" (params))))', '4:15',
+    ('(app\n (view get "/" (params)\n  (if true\n   ((put "a")))\n    ((put "b")))\n (view get "/b" (params))))',
+     '4:15',
      'this bracket seems to be one too many'),
     ('(app\n (view get "/" (params)\n  (put "a")))\n (view get "/b" (params)))', '3:13',
-     'this bracket closes the application, and something follows it: the item before, that of line 2, has a bracket too many'),
+     'this bracket closes the application, and something follows it: the item before, that of line 2, has a bracket '
+     'too many'),
 ]
 # Further faults: the places at which something is said, in their order.
 FURTHER = [
-    (VIEW % '(put x) (put (get User towns (first (from ((u User)) true key)))) (put (add 1 "a"))', ['3:8', '3:26', '3:81']),
+    (VIEW % '(put x) (put (get User towns (first (from ((u User)) true key)))) (put (add 1 "a"))', ['3:8', '3:26',
+                                                                                                    '3:81']),
     (TAG % '{{ x }}{{ y }}{% (if z) %}{% end %}', ['3:17', '3:24', '3:35']),
     ('(app (view get "/" (params) (putt 1))\n (view get "/b" (params) (puut 1))\n (view get "/c" (params) (put z)))',
      ['1:29', '2:26', '3:31']),
@@ -226,17 +229,21 @@ FURTHER = [
 ]
 # Words of a command that the program refuses, and what is said of them; and words that it takes.
 COMMANDS = [
-    ('', 'what jac does'), ('foo', 'there is no command foo\n'), ('serv a 1 1', 'there is no command serv; is it serve?'),
+    ('', 'what jac does'), ('foo', 'there is no command foo\n'), ('serv a 1 1',
+                                                                  'there is no command serv; is it serve?'),
     ('--help', 'what jac does'), ('check', 'APP is missing: the command is check APP'),
     ('check a b', 'b is one word too many'), ('check a --db x', 'check takes no --db'),
     ('replay a', 'EVENTS is missing'), ('replay a b --dbb x', 'there is no option --dbb; is it --db?'),
     ('replay a b --lazy=1', '--lazy has no value'), ('replay a b --lazy --lazy', '--lazy is there twice'),
     ('replay a b --db', '--db takes the name of a file'), ('replay a b --db --lazy', '--db takes the name of a file'),
-    ('replay a b --db=', '--db takes the name of a file, and this one is empty'), ('replay a b -x', 'there is no option -x'),
+    ('replay a b --db=', '--db takes the name of a file, and this one is empty'), ('replay a b -x',
+                                                                                   'there is no option -x'),
     ('serve a 80a 1', 'PORT is a number from 1 to 65535, and not 80a'), ('serve a 080 1', 'PORT is a number'),
     ('serve a 65536 1', 'PORT is a number'), ('serve a 80 0', 'COUNT, how many'), ('demo 2001', 'N, how many'),
-    ('demo', 'N is missing'), ('why a b', 'VIEWER is the number of a record'), ('why a b --audit x', 'why takes no --audit'),
-    ('dump a 1,,2', 'LABELS are numbers joined by commas'), ('dump a 340282366920938463463374607431768211456', 'LABELS are'),
+    ('demo', 'N is missing'), ('why a b', 'VIEWER is the number of a record'), ('why a b --audit x',
+                                                                                'why takes no --audit'),
+    ('dump a 1,,2', 'LABELS are numbers joined by commas'), ('dump a 340282366920938463463374607431768211456',
+                                                             'LABELS are'),
     ('upgrade a b', 'upgrade asks for --db FILE'),
 ]
 TAKEN = ['check none', 'replay none b --db=-x --lazy', 'dump none 1,2 --db none', 'why none -', 'check -- -none',
@@ -247,10 +254,13 @@ WIDE = '(app (model User (fields (name text) (age int)) (group (guards (age 0)) 
 NARROW = '(app (model User (fields (name text))))'
 OTHER = '(app (model User (fields (name int))))'
 STORES = [
-    (NARROW, 'dump next -', WIDE, 'in next the field age of User is new. ./jac upgrade OLD next --db store brings it there'),
-    (WIDE, 'replay next none', NARROW, 'in next the field age of User is missing. The store is one of a later version of next'),
+    (NARROW, 'dump next -', WIDE,
+     'in next the field age of User is new. ./jac upgrade OLD next --db store brings it there'),
+    (WIDE, 'replay next none', NARROW,
+     'in next the field age of User is missing. The store is one of a later version of next'),
     (NARROW, 'why next -', OTHER, 'in next the field name of User is int where it was text. No upgrade leads there'),
-    (WIDE, 'serve next 80 1', WIDE.replace('guards (age 0)', 'guards (name "")'), 'group 1 of User guards name where it was one '
+    (WIDE, 'serve next 80 1', WIDE.replace('guards (age 0)', 'guards (name "")'),
+     'group 1 of User guards name where it was one '
      'that guards age. No upgrade leads there'),
     (WIDE, 'dump next -', WIDE.replace('(guards (age 0))', 'hides'), 'group 1 of User hides its records'),
     (NARROW, 'dump next -', NARROW.replace('User', 'Person'), 'model 1 is Person where it was User'),
@@ -266,8 +276,8 @@ DAMAGES = [lost_brackets_of_items, lost_brackets, brackets_too_many, operands_to
 
 
 def expected(name, out, err, want):
-    """What is wrong with what is said, if anything: nothing stands on standard output, and no words are wanted at all or
-    these are among those on standard error."""
+    """What is wrong with what is said, if anything: nothing stands on standard output, and no words are wanted at all
+    or these are among those on standard error."""
     right = not out and (want in err if want else not err)
     return None if right else '%s: wanted %s, and this is said: %s' % (name, want or 'nothing', (out + err)[:300])
 
@@ -280,7 +290,9 @@ def messages(folder):
     for text, place, want in MESSAGES:
         out, err = said(folder, text.encode())
         yield expected(text, out, err.split('\nand further')[0], want)
-        yield None if err.startswith('damaged.app:%s: ' % place) else '%s: wanted %s, and this is said: %s' % (text, place, err)
+        yield None if err.startswith('damaged.app:%s: ' % place) else '%s: wanted %s, and this is said: %s' % (text,
+                                                                                                               place,
+                                                                                                               err)
     for text, want in FURTHER:
         out, err = said(folder, text.encode())
         have = places(err)
@@ -356,7 +368,8 @@ def main():
         said(folder, b'(app (model User (fields (name', 'open.app')
         for words, want in ((['upgrade', 'well.app', 'damaged.app', '--db', 'd'], 'damaged.app:1:20: '),
                             (['upgrade', '--db', 'd', 'damaged.app', 'open.app'], 'damaged.app:1:20: '),
-                            (['why', 'damaged.app', '4096'], 'damaged.app:1:20: '), (['upgrade', 'well.app', 'well.app', '--db', 'd'], ''),
+                            (['why', 'damaged.app', '4096'], 'damaged.app:1:20: '), (['upgrade', 'well.app',
+                                                                                      'well.app', '--db', 'd'], ''),
                             (['why', 'well.app', '4096'], ''), (['why', 'well.app', 'damaged.app'], 'jac: VIEWER is ')):
             out, err = said(folder, b'(app (view get "/" (putt "a")))', words=words)
             if out or err[:len(want) or None] != want:

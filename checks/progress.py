@@ -1,6 +1,6 @@
 #!/usr/bin/env python3
-"""Looks at what a build and a proof say while they are at work, and when they are stopped: with commands that sleep in the
-place of the compiler and of proofs. No words. Prints each case that fails, and ends with a count."""
+"""Looks at what a build and a proof say while they are at work, and when they are stopped: with commands that sleep in
+the place of the compiler and of proofs. No words. Prints each case that fails, and ends with a count."""
 import os
 import re
 import signal
@@ -135,7 +135,8 @@ def cases():
         yield said('a build that is stopped', told, 'jac: the trial is not built: stopped by %s\n' % how.name)
         status, told = stopped(PROOF, 'under way: second', how, 'long')
         yield expect('a proof that is stopped', status, 128 + how)
-        yield said('a proof that is stopped', told, 'first proved: 1 of 2 crates', 'by the table of costs, and none measured here yet',
+        yield said('a proof that is stopped', told, 'first proved: 1 of 2 crates',
+                   'by the table of costs, and none measured here yet',
                    'jac: stopped by %s: 1 of 2 crates are proved and kept, .* under way was second\n' % how.name)
     status, _, told = ended(PROOF, 'wrong')
     yield expect('a proof that fails', (status, told), (70, 'jac: first is not proved: its log is above\n'))

@@ -1,7 +1,7 @@
 #!/usr/bin/env python3
-"""Writes one page of HTML that shows who sees what of a store: a row for each guarded group of a record, a column for each
-viewer, and in each cell whether it is shown; where it isn't, the number of the reason, and below the table the reasons,
-each with the policy and its place. It works on a copy of the store, so the store may be served meanwhile.
+"""Writes one page of HTML that shows who sees what of a store: a row for each guarded group of a record, a column for
+each viewer, and in each cell whether it is shown; where it isn't, the number of the reason, and below the table the
+reasons, each with the policy and its place. It works on a copy of the store, so the store may be served meanwhile.
 
     python3 tools/access_matrix.py APP --db FILE --sessions SESSIONS --output page.html
 
@@ -42,9 +42,11 @@ td { width: 1.6rem; min-width: 1.6rem; height: 1.5rem; text-align: center }
 td a { display: block; color: #8c1d18; text-decoration: none }
 .s { background: #d8efdc; color: #14652f } .h { background: #fbe9e7 }
 thead th { position: sticky; top: 0; z-index: 2; background: #eef1f8; vertical-align: bottom; padding: .3rem 0 }
-thead span { display: inline-block; max-height: 10rem; overflow: hidden; writing-mode: vertical-rl; transform: rotate(180deg);
+thead span { display: inline-block; max-height: 10rem; overflow: hidden; writing-mode: vertical-rl;
+  transform: rotate(180deg);
   white-space: nowrap; text-overflow: ellipsis }
-tr > th:first-child { position: sticky; left: 0; z-index: 1; width: 20rem; min-width: 18rem; max-width: 20rem; background: #fff;
+tr > th:first-child { position: sticky; left: 0; z-index: 1; width: 20rem; min-width: 18rem; max-width: 20rem;
+  background: #fff;
   text-align: left; padding: .1rem .4rem }
 thead tr > th:first-child, .model th:first-child { background: #eef1f8 } thead tr > th:first-child { z-index: 3 }
 .model th { font-weight: bold; background: #eef1f8 }
@@ -52,7 +54,8 @@ tfoot td, tfoot th { background: #eef1f8 }
 small { color: #5a637c }
 ol { padding-left: 2.4rem } li { margin: .3rem 0 } li:target { background: #fff3c9 }
 code { white-space: pre-wrap; font: 13px/1.4 ui-monospace, monospace }
-.told { position: sticky; bottom: 0; z-index: 4; margin: .4rem 0 0; padding: .4rem .6rem; min-height: 3.2rem; background: #fff3c9;
+.told { position: sticky; bottom: 0; z-index: 4; margin: .4rem 0 0; padding: .4rem .6rem; min-height: 3.2rem;
+  background: #fff3c9;
   border: 1px solid #d9c77c; display: none }
 tr.off, .one td:not(.on), .one thead th:not(.on):not(:first-child) { display: none }
 @media (max-width: 40em) { body { padding: 0 .5rem .5rem; font-size: 13px }
@@ -75,7 +78,8 @@ const choose = () => {
     for (const row of body.rows) {
       if (row.classList.contains("model")) continue;
       const cell = row.cells[at];
-      const off = !row.dataset.name.toLowerCase().includes(text) || (at > 0 && state.value && !cell.classList.contains(state.value));
+      const other = at > 0 && state.value && !cell.classList.contains(state.value);
+      const off = other || !row.dataset.name.toLowerCase().includes(text);
       row.classList.toggle("off", off);
       if (at > 0) cell.classList.add("on");
       left += !off;
@@ -104,12 +108,13 @@ PAGE = '''<!DOCTYPE html>
 <meta name="viewport" content="width=device-width">
 <style>%(style)s</style>
 <h1>Who sees what: %(app)s</h1>
-<p>The store %(store)s as it was at %(when)s: %(labels)d guarded groups of records, %(viewers)d viewers. A cell says whether
-the viewer of its column is shown what is guarded in its row: <span class="s">&nbsp;✓&nbsp;</span> it is shown,
+<p>The store %(store)s as it was at %(when)s: %(labels)d guarded groups of records, %(viewers)d viewers. A cell says
+whether the viewer of its column is shown what is guarded in its row: <span class="s">&nbsp;✓&nbsp;</span> it is shown,
 <span class="h">&nbsp;1&nbsp;</span> it is hidden, for the reason of that number, below the table.</p>
 <div class="choice"><label>Rows with <input type="search"></label>
 <label>Viewer <select><option value="0">all</option>%(options)s</select></label>
-<label>Cells <select><option value="">all</option><option value="s">shown</option><option value="h">hidden</option></select></label></div>
+<label>Cells <select><option value="">all</option><option value="s">shown</option>
+<option value="h">hidden</option></select></label></div>
 <div class="room"><table>
 <thead><tr><th scope="col">Record</th>%(heads)s</tr></thead>
 %(bodies)s
@@ -159,9 +164,11 @@ def plain(text):
     """A text of a dump as it is."""
     def byte(found):
         word = found.group(1)
-        return {'n': b' ', 'r': b' ', 't': b' '}.get(word) or (bytes([int(word[1:], 16)]) if len(word) == 3 else word.encode())
+        return {'n': b' ', 'r': b' ', 't': b' '}.get(word) or (bytes([int(word[1:],
+                                                                          16)]) if len(word) == 3 else word.encode())
     parts = re.split(r'\\(x[0-9A-Fa-f]{2}|.)', text)
-    whole = b''.join(part.encode() if number % 2 == 0 else byte(re.match('(.*)', part)) for number, part in enumerate(parts))
+    whole = b''.join(part.encode() if number % 2 == 0 else byte(re.match('(.*)', part)) for number,
+                     part in enumerate(parts))
     words = whole.decode('utf-8', 'replace')
     return words if len(words) <= WIDE else words[:WIDE - 2] + '..'
 
@@ -240,11 +247,13 @@ def page(options, names, known, columns):
     labels = set().union(*(column.shown | set(column.hidden) for column in columns))
     reasons = {}
     return PAGE % {
-        'app': escaped(options.app), 'store': escaped(options.db), 'when': time.strftime('%Y-%m-%d %H:%M:%S'), 'style': STYLE,
+        'app': escaped(options.app), 'store': escaped(options.db), 'when': time.strftime('%Y-%m-%d %H:%M:%S'),
+        'style': STYLE,
         'script': SCRIPT, 'labels': len(labels), 'viewers': len(columns),
         'options': ''.join('<option value="%d">%s</option>' % (place, escaped(column.title))
                            for place, column in enumerate(columns, 1)),
-        'heads': ''.join('<th scope="col" title="%s"><span>%s</span></th>' % (escaped(column.title), escaped(column.head))
+        'heads': ''.join('<th scope="col" title="%s"><span>%s</span></th>' % (escaped(column.title),
+                                                                              escaped(column.head))
                          for column in columns),
         'bodies': bodies(names, known, columns, labels, reasons),
         'sums': ''.join('<td>%d</td>' % len(column.shown) for column in columns),
@@ -288,7 +297,8 @@ def options_of(words):
     parser.add_argument('--viewers', metavar='V,V', type=viewers_option,
                         help='the viewers that have a column; without it and without sessions all that there are')
     parser.add_argument('--output', metavar='FILE', help='where the page goes, instead of standard output')
-    parser.add_argument('--program', metavar='FILE', default=os.path.join(TOP, 'jac'), help='the program, instead of ./jac')
+    parser.add_argument('--program', metavar='FILE', default=os.path.join(TOP, 'jac'),
+                        help='the program, instead of ./jac')
     return parser.parse_args(words)
 
 

@@ -3,7 +3,8 @@
 allow, and first those behind which the longest chain waits (`schedule.py`). Words: the program's crate. Tells on
 standard error every 20 seconds which crates are done and under way, the minutes gone, and those that are thought to be
 left: by what crates took in earlier runs in this clone, which `out/measured.json` keeps, and for others by the table of
-costs in docs/TESTING.md, times what crates took here beyond it. Where one fails, its log follows, and the status is 70."""
+costs in docs/TESTING.md, times what crates took here beyond it. Where one fails, its log follows, and the status is
+70."""
 import json
 import os
 import signal
@@ -69,7 +70,8 @@ class Proof:
         """Why it failed, in words."""
         if self.process.returncode < 0:
             name = signal.Signals(-self.process.returncode).name
-            return 'was ended by %s%s' % (name, ', as the system does where memory runs out' if name == 'SIGKILL' else '')
+            return 'was ended by %s%s' % (name,
+                                          ', as the system does where memory runs out' if name == 'SIGKILL' else '')
         return 'is not proved: its log is above'
 
     def print_log(self):
@@ -134,9 +136,11 @@ def state_of(schedule):
     left = schedule.left()
     under_way = ', '.join(name + (' for %d min' % run.minutes() if run.minutes() >= 1 else '')
                           for name, run in schedule.running.items())
-    by = 'what crates took here' if schedule.measured()[1] > 1 or measured() else 'the table of costs, and none measured here yet'
+    by = 'what crates took here' if schedule.measured()[1] > 1 or measured() else \
+        'the table of costs, and none measured here yet'
     return '%d of %d crates, %s gone, %s%s left by %s%s' % (
-        len(schedule.done), len(schedule.tasks), minutes(schedule.minutes()), 'about ' if left >= 1 else '', minutes(left), by,
+        len(schedule.done), len(schedule.tasks), minutes(schedule.minutes()), 'about ' if left >= 1 else '',
+        minutes(left), by,
         '; under way: ' + under_way if under_way else '')
 
 
@@ -174,7 +178,8 @@ def prove_or_stop(schedule):
     try:
         return prove(schedule)
     except Stopped as stopped:
-        tell('stopped by %s: %d of %d crates are proved and kept, and the next ./prove goes on with the others; under way '
+        tell('stopped by %s: %d of %d crates are proved and kept, and the next ./prove goes on with the others; under '
+             'way '
              'was %s' % (stopped.name, len(schedule.done), len(schedule.tasks), ', '.join(schedule.running) or 'none'))
         raise
     finally:

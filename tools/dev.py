@@ -1,7 +1,7 @@
 #!/usr/bin/env python3
 """Serves an application while it is written: at each save the text is checked and given a second look, and the new
-text is served in the place of the old one. Requests that come meanwhile wait, and none is refused. `./jac dev` starts it,
-and gives it the program as its first word. docs/USING.md, "Writing an application", says what the browser shows.
+text is served in the place of the old one. Requests that come meanwhile wait, and none is refused. `./jac dev` starts
+it, and gives it the program as its first word. docs/USING.md, "Writing an application", says what the browser shows.
 
 It is for writing and not for serving: it listens on 127.0.0.1 alone, lets whoever reaches it be anybody of the sessions
 file, and tells which labels are hidden."""
@@ -32,6 +32,7 @@ HOST = '127.0.0.1'
 EVERY = 0.15            # seconds between two looks at the files
 CONNECTIONS = 1000000   # after which a run of `serve` ends, and another one begins
 TRIES = 5               # ports that are tried for a run of `serve`
+ASKED = 50              # times that a request is sent whose connection is dropped
 
 
 class Refused(Exception):
@@ -134,17 +135,32 @@ class Child:
             time.sleep(0.005)
 
     def ask(self, request):
-        """The reply's bytes, and the audit's line of it."""
-        with socket.create_connection((HOST, self.port), 600) as line:
+        """The reply's bytes, and the audit's line of it. The program drops a connection on which the first byte comes
+        late, as it may on a busy machine. It has taken nothing then, and writes no line, so it is asked again."""
+        for _ in range(ASKED):
+            reply, line = self.reply_to(request), self.audited()
+            if reply or line:
+                return reply, line
+            if self.is_over():
+                break
+        raise ConnectionError('the connection ended without a reply')
+
+    def reply_to(self, request):
+        """The bytes that come until the connection ends."""
+        parts = []
+        with contextlib.suppress(ConnectionError), socket.create_connection((HOST, self.port), 600) as line:
             line.sendall(request)
-            parts = []
             while parts[-1:] != [b'']:
                 parts.append(line.recv(65536))
+        return b''.join(parts)
+
+    def audited(self):
+        """The last line of the audit that was written since it was read."""
         with open(self.audit, 'rb') as file:
             file.seek(self.read)
             lines = file.read()
         self.read += len(lines)
-        return b''.join(parts), lines.decode('ascii', 'replace').rstrip('\n').rpartition('\n')[2]
+        return lines.decode('ascii', 'replace').rstrip('\n').rpartition('\n')[2]
 
     def is_over(self):
         return self.run.poll() is not None
@@ -321,7 +337,8 @@ class Dev:
             self.version += 1
 
     def copy_for_reading(self):
-        """A copy of the store as it is between two requests, for commands that read it, and the text that goes with it."""
+        """A copy of the store as it is between two requests, for commands that read it, and the text that goes with
+        it."""
         copy = os.path.join(self.room, 'copy')
         with self.door:
             for end in '', '-wal':
@@ -343,11 +360,12 @@ class Dev:
                 self.child = self.started(self.text)
             reply, line = self.child.ask(request)
             if not reply:
-                raise ConnectionError('the connection ended without a reply')
+                raise ConnectionError('the connection ended before its reply came')
             return reply, line, self.text
 
     def why(self, viewer):
-        """What `why` says of this viewer over the store as it is: the labels that are shown, and what hides the others."""
+        """What `why` says of this viewer over the store as it is: the labels that are shown, and what hides the
+        others."""
         with self.asking:
             copy, text = self.copy_for_reading()
             return hidden.why(self.program, text, self.source.path, viewer, copy)

@@ -121,7 +121,7 @@ def choice(dev, text, token, back):
 def told(text):
     """Messages with marked lines: each message wraps, and what is indented below it stays as it is laid out."""
     parts = re.findall(r'(?m)^(?:[ \t]+.*(?:\n[ \t].*)*|\S.*)', text)
-    return ''.join('<pre>%s</pre>' % escaped(part) if part[0] in ' \t' else '<p>%s</p>' % escaped(part) for part in parts)
+    return ''.join(('<pre>%s</pre>' if part[0] in ' \t' else '<p>%s</p>') % escaped(part) for part in parts)
 
 
 def wrong(dev):
@@ -155,11 +155,15 @@ def bar(dev, page, token):
         dev.count_looks(), told(dev.looks)) if dev.looks else ''
     inside = '''%s<div class="line"><b>jac dev</b><span>asked by <b>%s</b></span>%s
 <a href="%s">for writing, not for serving</a><span class="news"></span></div>
-<details class="labels"><summary>%s</summary><div class="inside" data-from="%slabels/%d"><a href="%spage/%d">In words</a></div></details>%s''' % (
-        wrong(dev), escaped(named(page.text, page.viewer)), choice(dev, page.text, token, back), PREFIX, counts(page), PREFIX,
+<details class="labels"><summary>%s</summary>
+<div class="inside" data-from="%slabels/%d"><a href="%spage/%d">In words</a></div></details>%s''' % (
+        wrong(dev), escaped(named(page.text, page.viewer)), choice(dev, page.text, token, back), PREFIX, counts(page),
+        PREFIX,
         page.number, PREFIX, page.number, looks)
-    return '<jac-dev-bar style="display:block;height:9rem"><template shadowrootmode="open"><style>%s</style><div class="bar">%s' \
-           '</div></template></jac-dev-bar>%s%s' % (STYLE, inside, RELOAD % (dev.version, json.dumps(page.method == 'GET')), MOVE)
+    return '<jac-dev-bar style="display:block;height:9rem"><template shadowrootmode="open"><style>%s</style>' \
+           '<div class="bar">%s' \
+           '</div></template></jac-dev-bar>%s%s' % (STYLE, inside, RELOAD % (dev.version,
+                                                                             json.dumps(page.method == 'GET')), MOVE)
 
 
 def home(dev, token):
@@ -173,22 +177,25 @@ def home(dev, token):
         parts.append('<p>There is no page yet: they begin with the first text that is right.</p>')
     parts.append('<div class="line">%s</div>' % choice(dev, text, token, '/'))
     if not dev.sessions:
-        parts.append('<p>There is no sessions file, so everybody is nobody: <code>--sessions FILE</code> names one.</p>')
+        parts.append('<p>There is no sessions file, so everybody is nobody: <code>--sessions FILE</code> names '
+                     'one.</p>')
     if dev.looks:
         parts.append('<h2>Places to look at</h2>%s' % told(dev.looks))
     kind = escaped(dev.store) if dev.is_kept else 'one that was made for this run, and goes with it'
     parts.append('<h2>The store</h2><p>It is %s.%s</p>' % (kind, ' ' + escaped(dev.note) + '.' if dev.note else ''))
-    parts.append('''<h2>What this is</h2><p>This is <code>jac dev</code>, for writing an application and not for serving it: it
-listens on this machine alone, lets whoever reaches it be anybody of the sessions file, and tells which labels are hidden.
-Its own pages are below <code>%s</code>. No view has such a path, since no part of a view's path is empty.</p>''' % PREFIX)
+    parts.append('''<h2>What this is</h2>
+<p>This is <code>jac dev</code>, for writing an application and not for serving it: it listens on this machine alone,
+lets whoever reaches it be anybody of the sessions file, and tells which labels are hidden. Its own pages are
+below <code>%s</code>. No view has such a path, since no part of a view's path is empty.</p>''' % PREFIX)
     return PAGE % (escaped(dev.source.path), STYLE, '\n'.join(parts), RELOAD % (dev.version, 'true'))
 
 
 def broken(dev, fault):
     """The page where the program gave no reply."""
     words = '\n'.join(part for part in (getattr(fault, 'line', ''), getattr(fault, 'told', '')) if part) or str(fault)
-    text = '<h1>No reply</h1><p>The program gave no reply to this request, and is started again with the next one.</p><pre>%s' \
-           '</pre>' % escaped(words)
+    text = '<h1>No reply</h1>' \
+           '<p>The program gave no reply to this request, and is started again with the next one.</p>' \
+           '<pre>%s</pre>' % escaped(words)
     return PAGE % ('No reply', STYLE, text, RELOAD % (dev.version, 'true'))
 
 
@@ -215,7 +222,9 @@ def labels(dev, page):
     parts = [stale, listed('Shown to %s' % escaped(named(page.text, page.viewer)), 'shown',
                            [item(names, label) for label in page.shown])]
     parts.append(listed('Hidden, %s' % of, 'hidden', [item(names, label, why.get(label, '')) for label in rest]))
-    return ''.join(parts) if page.shown or rest else stale + '<p>No label was consulted: nothing on this page is guarded.</p>'
+    if not page.shown and not rest:
+        parts.append('<p>No label was consulted: nothing on this page is guarded.</p>')
+    return ''.join(parts)
 
 
 def alone(page, text):

@@ -83,7 +83,8 @@ class Handler(http.server.BaseHTTPRequestHandler):
 
     def send_text(self, status, kind, text, headers=()):
         first = 'HTTP/1.1 %d %s' % (status, http.server.BaseHTTPRequestHandler.responses[status][0])
-        self.send(first, [('Content-Type', kind + '; charset=utf-8'), ('Cache-Control', 'no-store'), *headers], text.encode())
+        self.send(first, [('Content-Type', kind + '; charset=utf-8'), ('Cache-Control', 'no-store'), *headers],
+                  text.encode())
 
     def refuse(self, status, text):
         self.body()
@@ -176,7 +177,8 @@ class Handler(http.server.BaseHTTPRequestHandler):
 
     def is_of_here(self):
         origin, site = self.headers.get('Origin'), self.headers.get('Sec-Fetch-Site', 'same-origin')
-        return site in ('same-origin', 'none') and (origin is None or origin == 'http://' + self.headers.get('Host', ''))
+        return site in ('same-origin', 'none') and (origin is None or origin == 'http://' + self.headers.get('Host',
+                                                                                                             ''))
 
 
 def with_bar(page, bar):

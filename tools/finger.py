@@ -265,13 +265,16 @@ def ended_early(data, at, done, texts):
     """Something follows the bracket that closes the first list: a bracket too many stands before it."""
     early = closed_early(data, done)
     if early is not None:
-        return TreeFault('stray', at, 'this bracket seems to be one too many: what follows it belongs inside of the list that it '
+        return TreeFault('stray', at,
+                         'this bracket seems to be one too many: what follows it belongs inside of the list that it '
                          'closes', early, early + 1, text_notes(texts))
     if data[at] == ord(')') or done.head() != 'app':
-        what = 'this closing bracket has no opening one' if data[at] == ord(')') else 'something follows the list that ended before'
+        what = 'this closing bracket has no opening one' if data[at] == ord(')') else \
+            'something follows the list that ended before'
         return TreeFault('stray', at, what, notes=[(done.start, 'the list that ended begins here')] + text_notes(texts))
     last = done.children[-1]
-    return TreeFault('stray', at, 'this bracket closes the application, and something follows it: the item before, that of line '
+    return TreeFault('stray', at,
+                     'this bracket closes the application, and something follows it: the item before, that of line '
                      '%d, has a bracket too many' % line_and_column(data, last.start)[0], done.end - 1, done.end,
                      [(at, 'this follows')] + text_notes(texts))
 
@@ -281,14 +284,16 @@ def closed_early(data, done):
     further right than the first such child of its list."""
     found, left = [], [done]
     for before, child in zip(done.children[1:], done.children[2:]):
-        if done.head() == 'app' and before.head() in ('model', 'view') and child.head() not in ('model', 'view', 'viewer'):
+        is_item = child.head() in ('model', 'view', 'viewer')
+        if done.head() == 'app' and before.head() in ('model', 'view') and not is_item:
             return before.end - 1
     while left:
         node = left.pop()
         own = [place for place, child in enumerate(node.children) if begins_its_line(data, child.start)]
         for place in own[1:]:
             before = node.children[place - 1]
-            if before.kind == 'list' and column_of(data, node.children[place].start) > column_of(data, node.children[own[0]].start):
+            column, first = (column_of(data, node.children[one].start) for one in (place, own[0]))
+            if before.kind == 'list' and column > first:
                 found.append(before.end - 1)
                 break
         left += [child for child in node.children if child.kind == 'list']
@@ -495,8 +500,10 @@ def template_fault(node):
 
 FORMS_OF_TAGS = {
     'if': '{% (if truth) %}', 'for': '{% (for (from ((NAME MODEL)) true key)) %}', 'let': '{% (let NAME e) %}',
-    'set': '{% (let NAME e) %} .. {% end %}', 'put': '{% (put e) %}', 'elif': '{% else %}{% (if truth) %} .. {% end %}{% end %}',
-    'elsif': '{% else %}{% (if truth) %} .. {% end %}{% end %}', 'elseif': '{% else %}{% (if truth) %} .. {% end %}{% end %}',
+    'set': '{% (let NAME e) %} .. {% end %}', 'put': '{% (put e) %}',
+    'elif': '{% else %}{% (if truth) %} .. {% end %}{% end %}',
+    'elsif': '{% else %}{% (if truth) %} .. {% end %}{% end %}',
+    'elseif': '{% else %}{% (if truth) %} .. {% end %}{% end %}',
     'endif': '{% end %}', 'endfor': '{% end %}', 'endlet': '{% end %}',
 }
 
@@ -556,7 +563,8 @@ def form_words(fault):
             return '%s begins with its word; here is %s' % (WANTED[want], what_stands(node))
         other = STATEMENTS if want == 'expression' else EXPRESSIONS
         where = ', which is a form of %s' % ('statements' if want == 'expression' else 'expressions') if word in other else ''
-        close = meanings.meant(word, getattr(meanings, want.upper() + 'S')) or (None if where else nearest(word, known, 0.75))
+        close = meanings.meant(word, getattr(meanings, want.upper() + 'S'))
+        close = close or (None if where else nearest(word, known, 0.75))
         guess = '; is it %s?' % close if close else ''
         return 'there is no %s %s%s%s; the forms of %s are %s' % (
             want, word, where, guess, WANTED[want], ' '.join(known))
@@ -1214,8 +1222,8 @@ def tag_around(text, at):
 
 
 def further(program, data, name, fault):
-    """The faults that the program tells once what has the first one is taken out, and so on, each place once: a part of a
-    folder may be in several views."""
+    """The faults that the program tells once what has the first one is taken out, and so on, each place once: a part
+    of a folder may be in several views."""
     whole, found, known = data, [], {where(data, name, fault.start)}
     with tempfile.NamedTemporaryFile(prefix='jac-finger-') as file:
         for _ in range(MOST_ASKED):

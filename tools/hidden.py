@@ -17,7 +17,8 @@ class Fault(Exception):
 def output_of(words):
     """The status of a command and what it put, on standard output and on standard error."""
     done = subprocess.run(words, stdin=subprocess.DEVNULL, stdout=subprocess.PIPE, stderr=subprocess.PIPE, check=False)
-    return done.returncode, done.stdout.decode('utf-8', 'replace').rstrip('\n'), done.stderr.decode('utf-8', 'replace').rstrip('\n')
+    out, told = (text.decode('utf-8', 'replace').rstrip('\n') for text in (done.stdout, done.stderr))
+    return done.returncode, out, told
 
 
 def labels_of(text):
@@ -45,7 +46,8 @@ def why(program, text, app, viewer, store):
 
 def in_words(app, text, store, count):
     """What `why.py` says of so many hidden labels. A line that isn't indented begins what is said of the next one."""
-    for words in [app, store + '-lines', '--db', store], [text, store + '-lines', '--db', store], [text, store + '-lines']:
+    for words in [app, store + '-lines', '--db', store], [text, store + '-lines', '--db', store], [text,
+                                                                                                   store + '-lines']:
         status, out, _ = output_of([sys.executable, WHY, *words])
         blocks = [block for block in re.findall(r'(?m)^\S.*(?:\n[ \t].*)*', out) if block.startswith('hidden stays ')]
         if status == 0 and len(blocks) == count:

@@ -121,8 +121,8 @@ class Schedule:
         return (time.monotonic() - self.began) / 60
 
     def measured(self):
-        """The minutes that tasks took here, and those that they were thought to take: of the tasks that have ended, and of
-        those under way that take longer than was thought."""
+        """The minutes that tasks took here, and those that they were thought to take: of the tasks that have ended,
+        and of those under way that take longer than was thought."""
         over = [run for run in self.running.values() if run.work() > run.task.minutes]
         return (self.taken + sum(run.work() for run in over),
                 self.thought + sum(run.task.minutes for run in over))

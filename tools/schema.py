@@ -1,6 +1,6 @@
-"""What a store keeps of its application: its models, with their fields and groups, as the store's table `meta` has them.
-Reads them from a store and from an application, tells the first difference, and whether `upgrade` leads from the one to
-the other."""
+"""What a store keeps of its application: its models, with their fields and groups, as the store's table `meta` has
+them. Reads them from a store and from an application, tells the first difference, and whether `upgrade` leads from the
+one to the other."""
 import os
 import sqlite3
 import sys
@@ -31,7 +31,8 @@ def fields_of(node):
 def of_tree(tree):
     """The models of an application's tree."""
     return [Model(model.children[1].value, finger.is_nested(model), fields_of(finger.fields_in(model)),
-                  ['hides' if finger.hides(group) else tuple(guard.children[0].value for guard in finger.guards_in(group))
+                  ['hides' if finger.hides(group) else
+                   tuple(guard.children[0].value for guard in finger.guards_in(group))
                    for group in finger.groups_in(model)])
             for model in tree.children if model.head() == 'model']
 
@@ -73,7 +74,8 @@ def group_text(group):
 
 
 def first_lack(old, new):
-    """The first part of the old models that the new ones lack or have otherwise, in words, or None where they extend them."""
+    """The first part of the old models that the new ones lack or have otherwise, in words, or None where they extend
+    them."""
     for place, model in enumerate(old):
         if place >= len(new):
             return 'the model %s is missing' % model.name
@@ -81,7 +83,8 @@ def first_lack(old, new):
         if other.name != model.name:
             return 'model %d is %s where it was %s' % (place + 1, other.name, model.name)
         if other.nested != model.nested:
-            return 'the model %s is %s' % (model.name, 'nested where it was not' if other.nested else 'not nested where it was')
+            return 'the model %s is %s' % (model.name,
+                                           'nested where it was not' if other.nested else 'not nested where it was')
         lack = first_lack_in(model, other)
         if lack:
             return lack
@@ -132,7 +135,8 @@ def model_text(model):
               ' (group (guards %s) (policy false))' % ' '.join(guard_text(model, field) for field in group)
               for group in model.groups]
     return '(model %s%s (fields %s)%s)' % (
-        model.name, ' nested' if model.nested else '', ' '.join('(%s %s)' % field for field in model.fields), ''.join(groups))
+        model.name, ' nested' if model.nested else '', ' '.join('(%s %s)' % field for field in model.fields),
+        ''.join(groups))
 
 
 def application(models):
@@ -151,8 +155,8 @@ def told(command, store, apps):
         return of_other(command, store, of_text(stored), apps[0][0], models[0])
     if command == 'upgrade' and len(apps) == 2:
         lack = first_lack(*models)
-        return lack and '%s does not extend %s: %s. An upgrade adds models, fields and groups after those that are there.' % (
-            apps[1][0], apps[0][0], lack)
+        return lack and '%s does not extend %s: %s. An upgrade adds models, fields and groups after those that are ' \
+            'there.' % (apps[1][0], apps[0][0], lack)
     return ''
 
 
@@ -168,4 +172,5 @@ def of_other(command, store, old, name, new):
     words = '%s keeps records of an earlier version: in %s %s.' % (store, name, first_addition(old, new))
     if command == 'upgrade':
         return words + ' The first application of an upgrade is the one that the store was made by.'
-    return words + ' ./jac upgrade OLD %s --db %s brings it there, with OLD the application that it was made by.' % (name, store)
+    return words + ' ./jac upgrade OLD %s --db %s brings it there, with OLD the application that it was made by.' % (
+        name, store)
