@@ -8,6 +8,7 @@ import http.client
 import os
 import re
 import signal
+import socket
 import subprocess
 import sys
 import tempfile
@@ -302,6 +303,36 @@ def prefix():
         yield expect('a view with such a path', out[1], 'app: form at 1.2: expected path\n')
 
 
+def late():
+    """A connection on which the first byte comes late, as on a busy machine: the request is answered, and once."""
+    sys.path.insert(0, os.path.dirname(DEV))
+    import dev
+    connect, calls = socket.create_connection, []
+
+    def slow(*words):
+        line = connect(*words)
+        calls.append(line)
+        time.sleep(1 if len(calls) == 1 else 0)
+        return line
+
+    with tempfile.TemporaryDirectory() as folder:
+        with open(os.path.join(folder, 'app'), 'w', encoding='utf-8') as file:
+            file.write(APP)
+        child = dev.Child([PROGRAM, 'serve', '--audit', '%(audit)s', '--', file.name, '%(port)s', '100'], folder)
+        socket.create_connection = slow
+        try:
+            note = b'POST /note HTTP/1.1\r\nHost: a\r\nContent-Type: application/x-www-form-urlencoded\r\n' \
+                b'Content-Length: 10\r\nConnection: close\r\n\r\nwords=late'
+            reply, line = child.ask(note)
+            yield expect('a late request', (reply[:12], line), (b'HTTP/1.1 303', '1 303 - 32776'))
+            yield expect('how often it was sent', len(calls), 2)
+            page = child.ask(b'GET / HTTP/1.1\r\nHost: a\r\nConnection: close\r\n\r\n')[0]
+            yield expect('how often it was done', page.count(b'<p>late</p>'), 1)
+        finally:
+            socket.create_connection = connect
+            child.stop()
+
+
 def beginnings():
     """A text that is wrong from the first, and how a run ends."""
     with writer(text=WRONG) as run:
@@ -338,7 +369,7 @@ def beginnings():
 
 def main():
     results = []
-    for cases in (saves, stores, viewers, pages, prefix, beginnings):
+    for cases in (saves, stores, viewers, pages, prefix, late, beginnings):
         try:
             results += cases()
         except Broken as broken:
