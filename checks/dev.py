@@ -312,7 +312,7 @@ def late():
     def slow(*words):
         line = connect(*words)
         calls.append(line)
-        time.sleep(1 if len(calls) == 1 else 0)
+        time.sleep(4 if len(calls) == 1 else 0)
         return line
 
     with tempfile.TemporaryDirectory() as folder:
