@@ -1,46 +1,340 @@
 #!/usr/bin/env python3
-"""Adds an account: nginx's name and password, jac's token, and who that is. Words: the folder of the files, the name,
-and the viewer, which is the id of a record, or `-` for an account that is nobody to jac. The password is the first line
-of standard input. The token is made here, and nobody ever types it. Needs `openssl`. Afterwards nginx has to load its
-files again, and jac has to be started again."""
+"""The accounts of an application that is served: adds one, changes its password or its viewer, disables it, lists all.
+
+A folder has three files of accounts: `users` (names and passwords, for the server in front), `tokens` (the token of
+each name, for the server in front) and `sessions` (the viewer of each token, for jac). `accounts.ini` beside them says
+which commands make jac and the server in front read them again; they are run where a change asks for it.
+
+A viewer is the id of a record, `-` for an account that is nobody to jac, or `=TEXT` for the one viewer that has a field
+with this text in the store. A password is the first line of standard input, or is asked for at a terminal."""
+import argparse
+import collections
+import configparser
+import contextlib
+import fcntl
+import getpass
+import grp
 import os
 import re
 import secrets
+import shlex
+import shutil
+import sqlite3
 import subprocess
 import sys
+import tempfile
+
+HERE = os.path.dirname(os.path.realpath(__file__))
+# nginx compares the names of tokens without their case, and gives these words a meaning of their own.
+NAME = re.compile(r'[a-z0-9][a-z0-9._-]{0,63}')
+TAKEN = {'default', 'hostnames', 'include', 'volatile'}
+VIEWER = re.compile(r'[0-9]{1,39}|-')
+# bcrypt takes no more of a password.
+LONGEST = 72
+LABELS_AT_ONCE = 4000
 
 
-def add(folder, file, line):
-    """Appends a line to a file that only its owner and its group read."""
-    at = os.open(os.path.join(folder, file), os.O_WRONLY | os.O_APPEND | os.O_CREAT, 0o640)
-    with open(at, 'w') as out:
-        out.write(line + '\n')
+class Refused(Exception):
+    """What whoever asked did wrong, or what failed, in words."""
 
 
-def has(folder, file, name):
+class Settings:
+    """What `accounts.ini` says."""
+
+    def __init__(self, folder):
+        path = os.path.join(folder, 'accounts.ini')
+        read = configparser.ConfigParser(interpolation=None)
+        try:
+            with open(path, encoding='utf-8') as file:
+                read.read_file(file)
+            part = read['accounts']
+            self.program, self.application, self.store = part['program'], part['application'], part['store']
+            self.jac_group, self.front_group = part['jac group'], part['front group']
+            self.restart_jac, self.reload_front = part['restart jac'], part['reload front']
+            self.cost = part.getint('bcrypt cost', fallback=6)
+        except (OSError, configparser.Error, KeyError, ValueError) as error:
+            raise Refused('%s: %s' % (path, error)) from error
+        if not 4 <= self.cost <= 17:
+            raise Refused('%s: bcrypt cost is from 4 to 17' % path)
+
+
+def pairs_of(path, form):
+    """The two parts of each line, by the first; none where the file isn't there. A line of another form is refused,
+    since writing the file again would lose it."""
     try:
-        with open(os.path.join(folder, file)) as lines:
-            return any(re.split(r'[ :]', line)[0] == name for line in lines)
+        with open(path, encoding='utf-8') as file:
+            lines = file.read().splitlines()
     except FileNotFoundError:
-        return False
+        return {}
+    pairs = {}
+    for number, line in enumerate(lines, 1):
+        match = re.fullmatch(form, line)
+        if line.strip() and (not match or match[1] in pairs):
+            raise Refused('%s: line %d %s' % (path, number, 'names this one again' if match else 'has no form'))
+        if match:
+            pairs[match[1]] = match[2]
+    return pairs
+
+
+class Accounts:
+    """The three files. Nothing is written before `write`."""
+
+    def __init__(self, folder):
+        self.folder = folder
+        self.users = pairs_of(os.path.join(folder, 'users'), r'(#?[^#:\s]+):(\S*)')
+        self.tokens = pairs_of(os.path.join(folder, 'tokens'), r'(\S+) ([0-9A-Za-z_-]+);')
+        self.viewers = pairs_of(os.path.join(folder, 'sessions'), r'([0-9A-Za-z_-]+) (\d+|-)')
+
+    def names(self):
+        return sorted(name.lstrip('#') for name in self.users)
+
+    def is_active(self, name):
+        return name in self.users
+
+    def viewer(self, name):
+        return self.viewers.get(self.tokens.get(name), '-')
+
+    def check(self, name):
+        if name not in self.names():
+            raise Refused('there is no account %s' % name)
+
+    def set_password(self, name, line):
+        self.users.pop('#' + name, None)
+        self.users[name] = line
+
+    def disable(self, name):
+        """The name stays, in a comment, and its password is forgotten."""
+        self.users.pop(name, None)
+        self.users['#' + name] = ''
+
+    def set_viewer(self, name, viewer):
+        """Gives the account a token that nobody had before, or takes its token away."""
+        self.viewers.pop(self.tokens.pop(name, None), None)
+        if viewer != '-':
+            self.tokens[name] = secrets.token_hex(24)
+            self.viewers[self.tokens[name]] = viewer
+
+    def write(self, settings):
+        """Puts each file in the place of the one before at once."""
+        self.put('sessions', ['%s %s' % pair for pair in self.viewers.items()], settings.jac_group)
+        self.put('tokens', ['%s %s;' % pair for pair in self.tokens.items()], settings.front_group)
+        self.put('users', ['%s:%s' % pair for pair in self.users.items()], settings.front_group)
+
+    def put(self, file, lines, group):
+        """Only root, who runs this, gives the file to a group."""
+        path = os.path.join(self.folder, file)
+        text = ''.join(line + '\n' for line in lines)
+        try:
+            owner = grp.getgrnam(group).gr_gid if os.geteuid() == 0 else -1
+        except KeyError as error:
+            raise Refused('there is no group %s, which accounts.ini names' % group) from error
+        made, new = tempfile.mkstemp(prefix=file + '.', dir=self.folder)
+        try:
+            with open(made, 'w', encoding='utf-8') as out:
+                out.write(text)
+                os.fchown(out.fileno(), -1, owner)
+                os.fchmod(out.fileno(), 0o640)
+                out.flush()
+                os.fsync(out.fileno())
+            os.rename(new, path)
+        except BaseException:
+            os.unlink(new)
+            raise
+
+
+def checked_name(name):
+    if not NAME.fullmatch(name) or name in TAKEN:
+        raise Refused('a name has 1 to 64 small letters, digits, ".", "_" and "-", begins with a letter or a digit, '
+                      'and is none of %s: %s is none' % (', '.join(sorted(TAKEN)), name))
+    return name
+
+
+def password():
+    if sys.stdin.isatty():
+        given = getpass.getpass('Password: ')
+        if getpass.getpass('Once more: ') != given:
+            raise Refused('the two passwords differ')
+    else:
+        given = sys.stdin.readline().rstrip('\n')
+    if not given:
+        raise Refused('the password is the first line of standard input, which is empty')
+    if len(given.encode()) > LONGEST:
+        raise Refused('a password has at most %d bytes' % LONGEST)
+    return given
+
+
+def hashed(name, given, cost):
+    """By bcrypt, which both servers take."""
+    if not shutil.which('htpasswd'):
+        raise Refused('htpasswd isn\'t installed: apt install apache2-utils')
+    words = ['htpasswd', '-n', '-i', '-B', '-C', str(cost), name]
+    made = subprocess.run(words, input=given + '\n', stdout=subprocess.PIPE, stderr=subprocess.PIPE, text=True)
+    line = made.stdout.strip()
+    if made.returncode or not line.startswith(name + ':$2y$'):
+        raise Refused('htpasswd: %s' % (made.stderr.strip() or 'no bcrypt'))
+    return line.partition(':')[2]
+
+
+def dumped(settings, store, labels):
+    """The lines of a dump under these labels."""
+    words = [settings.program, 'dump', settings.application, ','.join(map(str, labels)) or '-', '--db', store]
+    done = subprocess.run(words, stdin=subprocess.DEVNULL, stdout=subprocess.PIPE, stderr=subprocess.PIPE, text=True)
+    if done.returncode:
+        raise Refused('the store can\'t be read: %s' % (done.stdout.splitlines() or [done.stderr])[-1])
+    return done.stdout.splitlines()
+
+
+def viewer_model(application):
+    """The name of the model whose records are viewers, its place among the models, and how many groups it has."""
+    with open(application, encoding='utf-8') as file:
+        text = file.read()
+    named = re.search(r'\(viewer\s+(\w+)\)', text)
+    if not named:
+        raise Refused('%s names no viewer: its accounts are nobody, "-"' % application)
+    models = list(re.finditer(r'\(model\s+(\w+)', text))
+    place = [model[1] for model in models].index(named[1])
+    end = models[place + 1].start() if place + 1 < len(models) else text.find('(view ', models[place].start())
+    return named[1], place, len(re.findall(r'\(group\b', text[models[place].start():end]))
+
+
+def labels_of(store, place, groups):
+    """Each label of a record of this model: the record's number times 8, and the place of the group."""
+    with contextlib.closing(sqlite3.connect('file:%s?mode=ro' % store, uri=True)) as base:
+        rows = base.execute('SELECT DISTINCT jid FROM rec WHERE model = ? ORDER BY jid', (place,))
+        return [int.from_bytes(row[0], 'big') * 8 + group for row in rows for group in range(groups)]
+
+
+def found(settings, text):
+    """The ids of viewers of which a text field is this text, as shown or as guarded, over a copy of the store."""
+    model, place, groups = viewer_model(settings.application)
+    spelled = text.replace('\\', '\\\\').replace('"', '\\"')
+    record, ids = re.compile(r'%s (\d+) ' % model), collections.OrderedDict()
+    with tempfile.TemporaryDirectory() as room:
+        copy = os.path.join(room, 'store')
+        words = [sys.executable, os.path.join(HERE, 'backup.py'), settings.store, copy]
+        made = subprocess.run(words, stdin=subprocess.DEVNULL, stderr=subprocess.PIPE, text=True)
+        if made.returncode:
+            raise Refused('the store can\'t be copied: ' + made.stderr.strip())
+        labels = labels_of(copy, place, groups)
+        parts = [labels[at:at + LABELS_AT_ONCE] for at in range(0, len(labels), LABELS_AT_ONCE)]
+        for part in [[], *parts]:
+            for line in dumped(settings, copy, part):
+                match = record.match(line)
+                if match and '="%s"' % spelled in line:
+                    ids.setdefault(match[1], line)
+    return ids
+
+
+def checked_viewer(settings, word):
+    """The id of a viewer, or `-`."""
+    if word.startswith('='):
+        ids = found(settings, word[1:])
+        if len(ids) != 1:
+            some = ''.join('\n' + line for line in ids.values()) or ' none'
+            raise Refused('one viewer has to have the text %s; there is:%s' % (word[1:], some))
+        return next(iter(ids))
+    if not VIEWER.fullmatch(word) or word != '-' and int(word) >= 1 << 128:
+        raise Refused('a viewer is a number below 2^128, "-", or "=" and a text: %s is none' % word)
+    return word
+
+
+def run(name, command):
+    """Runs a command of accounts.ini; an empty one is none."""
+    words = shlex.split(command)
+    if words:
+        try:
+            status = subprocess.run(words, stdin=subprocess.DEVNULL).returncode
+        except OSError as error:
+            status = error
+        if status:
+            raise Refused('the files are written, but "%s" failed (%s): %s. Once it can be done: account.py FOLDER '
+                          'reload' % (name, status, command))
+
+
+def reload_all(settings):
+    """jac reads its sessions first, so that no token comes to it that it doesn't know."""
+    run('restart jac', settings.restart_jac)
+    run('reload front', settings.reload_front)
+
+
+def add(accounts, settings, words):
+    name = checked_name(words.name)
+    if name in accounts.names():
+        raise Refused('there is an account %s already' % name)
+    viewer = checked_viewer(settings, words.viewer)
+    accounts.set_password(name, hashed(name, password(), settings.cost))
+    accounts.set_viewer(name, viewer)
+    accounts.write(settings)
+    if viewer != '-':
+        reload_all(settings)
+
+
+def change_password(accounts, settings, words):
+    accounts.check(words.name)
+    accounts.set_password(words.name, hashed(words.name, password(), settings.cost))
+    accounts.write(settings)
+
+
+def change_viewer(accounts, settings, words):
+    accounts.check(words.name)
+    accounts.set_viewer(words.name, checked_viewer(settings, words.viewer))
+    accounts.write(settings)
+    reload_all(settings)
+
+
+def disable(accounts, settings, words):
+    accounts.check(words.name)
+    accounts.disable(words.name)
+    accounts.write(settings)
+
+
+def show(accounts, settings, words):
+    for name in accounts.names():
+        print('%s %s %s' % (name, accounts.viewer(name), 'active' if accounts.is_active(name) else 'disabled'))
+
+
+def find(accounts, settings, words):
+    ids = found(settings, words.text)
+    for line in ids.values():
+        print(line)
+    if not ids:
+        raise Refused('no viewer has the text %s' % words.text)
+
+
+def reload(accounts, settings, words):
+    reload_all(settings)
+
+
+def parser():
+    made = argparse.ArgumentParser(description=__doc__.split('\n')[0], epilog=__doc__.split('\n\n')[-1])
+    made.add_argument('folder', help='where users, tokens, sessions and accounts.ini are, as /etc/jac')
+    commands = made.add_subparsers(dest='command', required=True, metavar='COMMAND')
+    for word, what, does, takes in (
+            ('add', 'adds an account, with its password', add, ('name', 'viewer')),
+            ('password', 'gives an account another password, also one that is disabled, which is active again',
+             change_password, ('name',)),
+            ('viewer', 'says anew who an account is', change_viewer, ('name', 'viewer')),
+            ('disable', 'ends an account\'s logins at once, and lets nobody in by it', disable, ('name',)),
+            ('list', 'puts each account: its name, its viewer, and whether it is active', show, ()),
+            ('find', 'puts the viewers that have a field with this text in the store', find, ('text',)),
+            ('reload', 'runs both commands of accounts.ini', reload, ())):
+        command = commands.add_parser(word, help=what)
+        command.set_defaults(does=does)
+        for each in takes:
+            command.add_argument(each)
+    return made
 
 
 def main():
-    folder, name, viewer = sys.argv[1:]
-    if not re.fullmatch(r'[A-Za-z0-9._-]{1,64}', name) or not re.fullmatch(r'[0-9]{1,39}|-', viewer):
-        sys.exit('a name has letters, digits, ".", "_" and "-"; a viewer is a number, or "-"')
-    if has(folder, 'users', name):
-        sys.exit('there is an account %s already' % name)
-    password = sys.stdin.readline().rstrip('\n')
-    if not password:
-        sys.exit('the password is the first line of standard input')
-    made = subprocess.run(['openssl', 'passwd', '-apr1', '-stdin'], input=password + '\n', stdout=subprocess.PIPE,
-                          check=True, text=True)
-    if viewer != '-':
-        token = secrets.token_hex(24)
-        add(folder, 'sessions', '%s %s' % (token, viewer))
-        add(folder, 'tokens', '%s %s;' % (name, token))
-    add(folder, 'users', '%s:%s' % (name, made.stdout.strip()))
+    words = parser().parse_args()
+    try:
+        settings = Settings(words.folder)
+        lock = os.open(words.folder, os.O_RDONLY)
+        fcntl.flock(lock, fcntl.LOCK_EX)
+        words.does(Accounts(words.folder), settings, words)
+    except (Refused, OSError) as error:
+        sys.exit('account.py: %s' % error)
 
 
-main()
+if __name__ == '__main__':
+    main()
