@@ -1,0 +1,365 @@
+#!/usr/bin/env python3
+"""Logs in and out of the calendar on the pages of Apache, with the files of deploy/: wrong passwords, a login that ran
+out, forged cookies, forms of other sites, accounts that are disabled or have another password, and the site's own pages
+for errors. Words: the program. Prints each case that fails, and ends with a count. Where Apache or what it needs isn't
+installed, nothing is done, and that is said."""
+import argparse
+import contextlib
+import os
+import re
+import shutil
+import socket
+import sqlite3
+import subprocess
+import sys
+import tempfile
+import time
+
+sys.dont_write_bytecode = True
+import proved                                                                   # noqa: E402
+from fronts import (CALENDAR, DEPLOY, HOST_NAME, PASSWORDS, TOP, Client, Skipped, account, add_accounts,  # noqa: E402
+                    certify, close, expect, placed, plain, read, report, secured, service, settle, shows, site_files,
+                    until, write)
+from serving import HOST, free_port, is_listening                               # noqa: E402
+
+AVAILABLE = '/etc/apache2/mods-available'
+SQLITE = 'apr_dbd_sqlite3'
+# What Debian's Apache has without being asked.
+BASE = ('mpm_event', 'authn_core', 'authn_file', 'authz_core', 'authz_user', 'mime', 'alias', 'env', 'reqtimeout',
+        'setenvif')
+MAIN = '''ServerRoot %(folder)s
+DefaultRuntimeDir %(folder)s
+PidFile %(folder)s/pid
+ErrorLog %(folder)s/error.log
+%(user)s
+Listen 127.0.0.1:%(tls)d
+Listen 127.0.0.1:%(plain)d
+%(modules)s
+TypesConfig /etc/mime.types
+<Directory />
+    Require all denied
+</Directory>
+Include %(folder)s/site.conf
+'''
+# How docs/DEPLOYING.md makes the file of logins.
+TABLE = re.search(r'sqlite3 /var/lib/jac-logins/calendar.db "(.*)"', read(TOP, 'docs', 'DEPLOYING.md'))[1]
+
+
+def loaded(text):
+    """The lines that load the modules which the site asks for, and those that they need."""
+    lines, left = [], [*BASE, *re.search(r'(?m)^# a2enmod (.*)$', text)[1].split()]
+    seen = set()
+
+    def load(name):
+        if name in seen:
+            return
+        seen.add(name)
+        said = read(AVAILABLE, name + '.load')
+        for other in ' '.join(re.findall(r'(?m)^# Depends: (.*)$', said)).split():
+            load(other)
+        lines.extend(line for line in said.splitlines() if line.startswith('LoadModule'))
+
+    for name in left:
+        load(name)
+    return '\n'.join(lines)
+
+
+class Site(Client):
+    """Apache in front of jac, in a folder of its own."""
+
+    def __init__(self, folder, program, age):
+        self.folder, self.plain, self.port_of_jac = folder, free_port(), free_port()
+        settle(folder, program)
+        write('%064x' % 1, folder, 'passphrase')
+        shutil.copy(CALENDAR, folder)
+        site_files(folder)
+        logins = os.path.join(folder, 'logins')
+        os.makedirs(logins)
+        with contextlib.closing(sqlite3.connect(os.path.join(logins, 'calendar.db'))) as base:
+            base.executescript(TABLE)
+        super().__init__(free_port(), certify(folder))
+        self.tokens = add_accounts(folder)
+        text = read(DEPLOY, 'apache.conf')
+        changes = [('calendar.example.org', HOST_NAME), ('calendar\\.example\\.org', HOST_NAME),
+                   ('*:443', '*:%d' % self.port), ('*:80', '*:%d' % self.plain),
+                   ('https://%s/' % HOST_NAME, self.own + '/'),
+                   ('/etc/jac/calendar/', folder + '/'), ('/var/lib/jac-logins/', logins + '/'), ('/srv/jac', folder),
+                   ('127.0.0.1:8080', '127.0.0.1:%d' % self.port_of_jac),
+                   ('SessionMaxAge 28800', 'SessionMaxAge %d' % age)]
+        write(placed(text, changes), folder, 'site.conf')
+        user = ''
+        if os.geteuid() == 0:
+            user = 'User www-data\nGroup www-data'
+            os.chmod(folder, 0o711)
+            for file in (logins, *(os.path.join(logins, name) for name in os.listdir(logins))):
+                shutil.chown(file, 'www-data')
+        write(MAIN % {'folder': folder, 'tls': self.port, 'plain': self.plain, 'user': user, 'modules': loaded(text)},
+              folder, 'main.conf')
+        self.run = subprocess.Popen(['apache2', '-d', folder, '-f', 'main.conf', '-DFOREGROUND'], text=True,
+                                    stdin=subprocess.DEVNULL, stdout=subprocess.PIPE, stderr=subprocess.STDOUT)
+        until(lambda: self.run.poll() is not None or is_listening(self.port))
+
+    def log_in(self, name, password=None, back='', further=(), **fields):
+        given = PASSWORDS.get(name) if password is None else password
+        fields = {'httpd_username': name, 'httpd_password': given, **fields}
+        page = self.own + '/account/login.html' + back
+        return self.form('/account/in', fields, [('Referer', page), ('Origin', self.own), *further])
+
+    def logged_in(self, name, password=None):
+        """The cookie of a login."""
+        return ('Cookie', cookie_of(self.log_in(name, password)))
+
+    def page(self, *headers, path='/'):
+        return self.ask('GET', path, headers)
+
+
+def cookie_of(answer):
+    return (answer[1].get('Set-Cookie') or '').partition(';')[0]
+
+
+def sent_to(answer):
+    return answer[0], answer[1].get('Location')
+
+
+def who(answer):
+    """The status, and whom the calendar's page greets."""
+    match = re.search(r'You are (\w+)|Nobody is logged in', answer[2])
+    return answer[0], match and match[0]
+
+
+ASKED = 302, '/account/login.html?/'
+
+
+def logins(site):
+    """Right and wrong names and passwords, and the page that comes afterwards."""
+    yield expect('a page without a login', sent_to(site.page(path='/event/5')), (302, '/account/login.html?/event/5'))
+    asked = '/event/5?a=b&c=%2F%0d%0aX:'
+    yield expect('a page with a query', sent_to(site.page(path=asked)), (302, '/account/login.html?' + asked))
+    yield expect('a form without a login', sent_to(site.form('/people', {'name': 'x'}, [('Origin', site.own)])), ASKED)
+    answer = site.log_in('ann', 'for bob', '?/people')
+    yield expect('a wrong password', sent_to(answer), (302, '/account/wrong.html?/people'))
+    yield expect('an unknown name', sent_to(site.log_in('zoe', 'for ann')), (302, '/account/wrong.html?/'))
+    yield expect('nothing', sent_to(site.log_in('', '')), (302, '/account/wrong.html?/'))
+    yield expect('a wrong password gives no login', cookie_of(site.log_in('ann', 'for bob')), '')
+    yield expect('back to a page', sent_to(site.log_in('ann', back='?/people?a=b')), (302, '/people?a=b'))
+    answer = site.log_in('ann')
+    have = (answer[1]['Set-Cookie'] or '').split(';')[1:]
+    yield expect('a login', (sent_to(answer), have),
+                 ((302, '/'), ['Max-Age=28800', 'path=/', 'Secure', 'HttpOnly', 'SameSite=Lax']))
+    for back in ('?//evil.example/', '?/\\evil.example', '?https://evil.example/'):
+        yield expect('back to ' + back, sent_to(site.log_in('ann', back=back))[1], '/')
+    for path in ('//evil.example/', '/\\evil.example'):
+        yield expect('asked for ' + path, sent_to(site.page(path=path)), ASKED)
+
+
+def people(site):
+    """Two accounts with their own view of a page, one that is nobody, and cookies that are forged."""
+    ann, bob, eve = (site.logged_in(name) for name in ('ann', 'bob', 'eve'))
+    own = ('Origin', site.own)
+    yield expect('it is set up', site.form('/setup', {}, [ann, own])[0], 303)
+    yield expect('an event', site.form('/events', {'title': 'Secret talk', 'day': '2026-12-01'}, [ann, own])[0], 303)
+    yield shows('ann', site.page(ann), 'You are Ann.', '>Secret talk</a>')
+    yield shows('bob', site.page(bob), 'You are Bob.', '>busy</a>', but=['Secret'])
+    yield expect('an account without a token', who(site.page(eve)), (200, 'Nobody is logged in'))
+    forged = 'session=' + site.tokens['ann']
+    for name, cookies in (('behind', [bob[1] + '; ' + forged]), ('before', [forged + '; ' + bob[1]]),
+                          ('in a header of its own', [forged, bob[1]]), ('twice', [bob[1], forged, forged])):
+        answer = site.page(*(('Cookie', cookie) for cookie in cookies))
+        yield expect('bob with a forged cookie ' + name, who(answer), (200, 'You are Bob'))
+    answer = site.page(('Cookie', eve[1] + '; ' + forged))
+    yield expect('nobody with a forged cookie', who(answer), (200, 'Nobody is logged in'))
+    yield expect('a forged cookie alone', sent_to(site.page(('Cookie', forged))), ASKED)
+    yield expect('a header of a password', sent_to(site.page(('Authorization', 'Basic YW5uOmZvciBhbm4='))), ASKED)
+    value = ann[1]
+    turned = value[:40] + ('0' if value[40] != '0' else '1') + value[41:]
+    plain_one = '__Host-account=calendar-user=ann&calendar-pw=for+ann'
+    for name, cookie in (('turned', turned), ('cut', value[:-12]), ('empty', '__Host-account='),
+                         ('of words', plain_one)):
+        yield expect('a login that is ' + name, sent_to(site.page(('Cookie', cookie))), ASKED)
+    chunks = [ann, own, ('Content-Type', 'application/x-www-form-urlencoded'), ('Transfer-Encoding', 'chunked')]
+    yield expect('a form in chunks', site.ask('POST', '/people', chunks, iter([b'name=', b'Finn']))[0], 303)
+    yield expect('a large form', site.form('/people', {'name': 'x' * 60000}, [eve, own])[0], 404)
+    for method in ('PUT', 'DELETE', 'TRACE'):
+        yield expect(method, site.ask(method, '/', [ann, ('Content-Length', '0')])[0], 405)
+
+
+def other_sites(site):
+    """Forms of other sites, to the calendar, to log in and to log out."""
+    ann = site.logged_in('ann')
+    for further, want in (([('Sec-Fetch-Site', 'cross-site')], 403), ([('Sec-Fetch-Site', 'same-site')], 403),
+                          ([('Origin', 'https://elsewhere.example')], 403), ([('Origin', 'null')], 403),
+                          ([('Origin', site.own + '.elsewhere.example')], 403), ([('Origin', site.own)], 303),
+                          ([('Origin', site.own), ('Sec-Fetch-Site', 'same-origin')], 303)):
+        yield expect('a form with %r' % further, site.form('/people', {'name': 'Gwen'}, [ann, *further])[0], want)
+    fields = {'httpd_username': 'bob', 'httpd_password': PASSWORDS['bob'], 'httpd_location': 'https://evil.example/'}
+    for further in ([('Origin', 'https://evil.example')], [('Origin', 'null')], [('Sec-Fetch-Site', 'cross-site')], []):
+        yield expect('a login with %r' % further, site.form('/account/in', fields, further)[0], 403)
+        yield expect('a logout with %r' % further, site.form('/account/out', {}, [ann, *further])[0], 403)
+    yield expect('the login is still open', who(site.page(ann)), (200, 'You are Ann'))
+    yield expect('a link on another site', site.page(ann, ('Sec-Fetch-Site', 'cross-site'))[0], 200)
+    yield expect('another host', site.ask('GET', '/', [ann], host='evil.example')[0], 421)
+    yield expect('another host, longer', site.ask('GET', '/', [ann], host=HOST_NAME + '.evil.example')[0], 421)
+    for host in (HOST_NAME, 'evil.example'):
+        yield expect('without TLS', plain(site.plain, '/people?a=b', host), (301, site.own + '/people?a=b'))
+
+
+def ends(site):
+    """Whoever logs out, is disabled or has another password is logged in no longer, at once."""
+    own = ('Origin', site.own)
+    ann, second, bob = site.logged_in('ann'), site.logged_in('ann'), site.logged_in('bob')
+    answer = site.form('/account/out', {}, [ann, own])
+    yield expect('a logout', sent_to(answer), (307, '/account/login.html'))
+    answer = site.form('/account/login.html', {}, [own])
+    yield expect('its next step', sent_to(answer), (303, site.own + '/account/login.html'))
+    yield expect('a login that was ended', sent_to(site.page(ann)), ASKED)
+    yield expect('another one of the same account', who(site.page(second)), (200, 'You are Ann'))
+    yield expect('she is disabled', account(site.folder, 'disable', 'ann')[0], 0)
+    yield expect('a login of who is disabled', sent_to(site.page(second)), ASKED)
+    yield expect('a form of who is disabled', sent_to(site.form('/people', {'name': 'x'}, [second, own])), ASKED)
+    for name in ('ann', '#ann'):
+        yield expect('who is disabled logs in as ' + name, sent_to(site.log_in(name, PASSWORDS['ann'])),
+                     (302, '/account/wrong.html?/'))
+    yield expect('bob is still logged in', who(site.page(bob)), (200, 'You are Bob'))
+    yield expect('another password', account(site.folder, 'password', 'ann', password='another')[0], 0)
+    yield expect('the login of before', sent_to(site.page(second)), ASKED)
+    yield expect('the old password', sent_to(site.log_in('ann')), (302, '/account/wrong.html?/'))
+    yield expect('the new one', who(site.page(site.logged_in('ann', 'another'))), (200, 'You are Ann'))
+    account(site.folder, 'password', 'ann', password=PASSWORDS['ann'])
+    added = account(site.folder, 'add', 'finn', '-', password='for finn')
+    yield expect('a new account', (added, who(site.page(site.logged_in('finn', 'for finn')))),
+                 ((0, '', ''), (200, 'Nobody is logged in')))
+
+
+def headers_of(site):
+    """What may be kept, and by what headers."""
+    ann = site.logged_in('ann')
+    _, headers, _ = site.page(ann)
+    have = headers.get_all('Cache-Control'), headers.get_all('Vary'), headers['Content-Type']
+    yield expect('a private page', have, (['private, no-store'], ['Cookie'], 'text/html; charset=utf-8'))
+    status, headers, _ = site.page(path='/static/style.css')
+    have = status, headers['Content-Type'], headers.get_all('Cache-Control'), headers['Set-Cookie']
+    yield expect('the style sheet', have, (200, 'text/css', ['public, max-age=3600'], None))
+    for path in ('/', '/people', '/none', '/account/login.html', '/account/style.css', '/static/style.css',
+                 '/static/none'):
+        yield secured(path, site.page(ann, path=path)[1])
+        yield secured('a stranger at ' + path, site.page(path=path)[1])
+    yield secured('a page of another host', site.ask('GET', '/', host='evil.example')[1])
+    yield secured('a wrong password', site.log_in('ann', 'wrong')[1])
+    for path in ('/static/../tokens', '/static/%2e%2e/tokens', '/account/%2e%2e/users', '/account/', '/account/in/x',
+                 '/tokens', '/account/../key.pem', '/account/out/'):
+        yield expect(path, ('session' in site.page(path=path)[2], site.page(path=path)[0] == 200), (False, False))
+
+
+def error_pages(site, jac):
+    """Pages of the site in place of errors; a 404 is the program's."""
+    ann, own = site.logged_in('ann'), ('Origin', site.own)
+    answer = site.form('/people', {'name': 'x' * 70000}, [ann, own])
+    yield expect('a form too large', (answer[0], 'Too much at once' in answer[2]), (413, True))
+    kind = [ann, own, ('Content-Type', 'text/plain'), ('Content-Length', '3')]
+    answer = site.ask('POST', '/people', kind, b'a=b')
+    yield expect('no form', (answer[0], 'Not a form of this site' in answer[2]), (415, True))
+    answer = site.page(ann, path='/none')
+    yield expect('no such page', (answer[0], '/account/' in answer[2]), (404, False))
+    jac.stop()
+    answer = site.page(ann)
+    yield expect('without jac', (answer[0], 'Not available' in answer[2]), (503, True))
+    yield secured('without jac', answer[1])
+    yield expect('a form without jac', site.form('/people', {'name': 'x'}, [ann, own])[0], 503)
+
+
+def beside_slow_form(site, slow, other):
+    """How long the slowest of some pages took beside a form of which a part is lacking, and what came of the form."""
+    line = site.trusted.wrap_socket(socket.create_connection((HOST, site.port)), server_hostname=HOST_NAME)
+    with contextlib.closing(line):
+        head = ('POST /people HTTP/1.1', 'Host: ' + site.host, 'Cookie: ' + slow[1], 'Origin: ' + site.own,
+                'Content-Type: application/x-www-form-urlencoded', 'Content-Length: 40005', '', 'name=')
+        line.sendall('\r\n'.join(head).encode() + b'x' * 30000)
+        time.sleep(0.3)
+        worst = 0.0
+        for _ in range(5):
+            begun = time.monotonic()
+            site.page(other)
+            worst = max(worst, time.monotonic() - begun)
+        line.sendall(b'x' * 10000)
+        line.settimeout(20)
+        return worst, line.recv(12)
+
+
+def slow_forms(site):
+    """A form that comes slowly holds up nobody. It is tried again where other work does: a page that is held up by the
+    form takes 2.7 seconds each time, and the form is cut."""
+    ann, bob = site.logged_in('ann'), site.logged_in('bob')
+    tries = [beside_slow_form(site, ann, bob)]
+    while len(tries) < 3 and (tries[-1][0] > 1 or tries[-1][1] != b'HTTP/1.1 303'):
+        tries.append(beside_slow_form(site, ann, bob))
+    yield None if min(tries)[0] < 1 else 'beside a slow form pages took %s s' % [round(worst, 1) for worst, _ in tries]
+    yield expect('the slow form', tries[-1][1], b'HTTP/1.1 303')
+
+
+def documented(site):
+    """The page asks for the modules that the site's file names, and removes what ran out by jac-logins.service."""
+    page = read(TOP, 'docs', 'DEPLOYING.md')
+    asked = re.search(r'(?m)^# (a2enmod .*)$', read(DEPLOY, 'apache.conf'))[1]
+    yield expect('the modules on the page', '    %s\n' % asked in page, True)
+
+
+def runs_out(site):
+    """A login that is over, and its row, which the timer's command removes."""
+    ann = site.logged_in('ann')
+    yield expect('a new login', who(site.page(ann))[0], 200)
+    time.sleep(7)
+    yield expect('a login that ran out', sent_to(site.page(ann)), ASKED)
+    path = os.path.join(site.folder, 'logins', 'calendar.db')
+    statement = re.search(r'(?m)^ExecStart=.*"(delete .*)"$', read(DEPLOY, 'jac-logins.service'))[1].replace('%%', '%')
+    bob = site.logged_in('bob')
+    with contextlib.closing(sqlite3.connect(path, timeout=20)) as base:
+        before = base.execute('select count(*) from session').fetchone()[0]
+        base.execute(statement)
+        base.commit()
+        after = base.execute('select count(*) from session').fetchone()[0]
+    yield None if 1 <= after < before else 'of %d rows of logins %d are left' % (before, after)
+    yield expect('a login that is open', who(site.page(bob))[0], 200)
+
+
+def results_of(program, age, parts):
+    with tempfile.TemporaryDirectory() as folder:
+        site = Site(folder, program, age)
+        try:
+            if site.run.poll() is not None:
+                yield 'Apache takes the files: %s' % site.run.communicate()[0]
+                return
+            jac = service(program, folder, site.port_of_jac)
+            try:
+                for part in parts:
+                    yield from part(site)
+                if age > 60:
+                    yield from error_pages(site, jac)
+            finally:
+                jac.stop()
+        finally:
+            close(site.run)
+
+
+def lacking():
+    """What isn't installed."""
+    names = [name for name in ('apache2', 'openssl', 'htpasswd') if not shutil.which(name)]
+    if not names and not any(SQLITE in file for folder, _, files in os.walk('/usr/lib') for file in files
+                             if 'apr-util' in folder):
+        names = ['libaprutil1-dbd-sqlite3']
+    return names
+
+
+def main():
+    reader = argparse.ArgumentParser(description=__doc__.split('.')[0])
+    reader.add_argument('program', help='./jac, or a trial')
+    words = reader.parse_args()
+    missing = lacking()
+    if missing:
+        report([Skipped('all of it: %s is not installed' % ', '.join(missing))])
+    program = proved.program(words.program)
+    parts = documented, logins, people, other_sites, headers_of, slow_forms, ends
+    report([*results_of(program, 28800, parts), *results_of(program, 6, [runs_out])])
+
+
+if __name__ == '__main__':
+    main()
