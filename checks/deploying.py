@@ -528,7 +528,7 @@ def both_served(site, folder, host):
     """Each of the two, by its own name and accounts."""
     board, own = '%s:%d' % (host, site.port), basic('ann', 'for the board')
     until(lambda: site.ask('GET', '/', own, host=board)[0] == 200)
-    yield shows('the board', site.ask('GET', '/', own, host=board), '<title>Papers</title>', but=['Secret talk'])
+    yield shows('the board', site.ask('GET', '/', own, host=board), ' - Papers</title>', but=['Secret talk'])
     yield shows('the calendar', site.page('ann'), 'Secret talk')
     yield expect('a password of the calendar', site.ask('GET', '/', basic('ann'), host=board)[0], 401)
     yield expect('a password of the board', site.ask('GET', '/', own)[0], 401)
