@@ -191,6 +191,8 @@ def run_all(checks, jobs, program, report):
     waiting = sorted(checks, key=lambda check: (check.alone, -check.seconds))
     running = []
     with tempfile.TemporaryDirectory(prefix='jac-test-', ignore_cleanup_errors=True) as room:
+        # login.py starts Apache, which reads its files as another user
+        os.chmod(room, 0o711)
         try:
             while waiting or running:
                 while waiting and len(running) < jobs and not (running and waiting[0].alone):
