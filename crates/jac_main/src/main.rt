@@ -7,7 +7,7 @@ ghost use Rattle.jac_host.specs.Sinks.{sink_seen};
 ghost use Rattle.jac_host.specs.Links.{door_seen};
 ghost use Rattle.jac_serve_events.specs.Outside.{span};
 ghost use Rattle.jac_command_base.specs.Files.{sight};
-ghost use Rattle.jac_app.specs.Run.{IsRun};
+ghost use Rattle.jac_main.specs.Promise.{KeepsPromise, top_run};
 
 use jac_app::{Status, run};
 use jac_host::{HostAudit, HostDoor, HostFiles, HostLink, Outside, Stdout, Unknown};
@@ -99,13 +99,13 @@ fn run_host<O: Outside, L: Ledger, M: Ledger>(
     requires door { ⟦<HostDoor<'static, O> as Door>⟧.seen host.old.door
         ≡ door_seen O.inputs [] [] 0 }
     requires first { (⟦<HostVault as Keeper>⟧.seen vault.old).store.called ≡ false }
-    ensures { IsRun ⟦<HostLink<O> as Link>⟧.seen
+    ensures { KeepsPromise words.now (top_run ⟦<HostLink<O> as Link>⟧.seen
         (sight (files_seen O.file [] 0) (⟦<HostFiles<'static, O> as Files>⟧.seen host.new.files)
         (sink_seen [] 0) (⟦<Stdout<'static> as Sink>⟧.seen host.new.out)
         (sink_seen [] 0) (⟦<HostAudit<'static> as Sink>⟧.seen host.new.audit)
         (⟦<HostVault as Keeper>⟧.seen vault.old) (⟦<HostVault as Keeper>⟧.seen vault.new))
         (span (door_seen O.inputs [] [] 0) (⟦<HostDoor<'static, O> as Door>⟧.seen host.new.door))
-        (span splits.old splits.new) words.now result }
+        (span splits.old splits.new) result) }
 {
     run(
         rt.alloc(),

@@ -1,0 +1,6 @@
+use Rattle.std.proofs.Common.{rules}
+use Rattle.jac_main.proofs.Promised.{promised}
+use Rattle.jac_main.proofs.run_host.Goals as goal
+
+pub returns : goal.returns
+returns g c = promised _ _ (search rules)

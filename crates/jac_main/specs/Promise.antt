@@ -1,0 +1,27 @@
+-- What a run of the program keeps: the contract of the top call, and the promise that follows.
+use Rattle.std.specs.Prelude.{◌≡◌, ℕ, Some, List}
+use Rattle.jac_io.specs.Linked.{LinkSeen, DoorSeen}
+use Rattle.jac_serve_events.specs.Outside.{Span}
+use Rattle.jac_cli.specs.Words.{command_of}
+use Rattle.jac_cli.specs.declared.words.Command.TheVariants as commands
+use Rattle.jac_cli.specs.declared.words.Replay.{Replay}
+use Rattle.jac_cli.specs.declared.words.ServeArgs.{ServeArgs}
+use Rattle.jac_command_base.specs.Files.{Sight}
+use Rattle.jac_command_base.specs.declared.status.Status.{Status}
+use Rattle.jac_run_laws.specs.Replayed.{TopRun, IsTopRun, IsToldToEnd}
+use Rattle.jac_headline.specs.Headline.{Given, HoldGiven, IsReplayTold, HasReplayedFaithfully, HasServedFaithfully}
+
+abbrev pub top_run : {L : Type 0} → (L → LinkSeen) → Sight → Span (DoorSeen L) → Span ℕ → Status
+    → TopRun L
+top_run line seen door splits status =
+    record { line = line; seen = seen; door = door; splits = splits; status = status }
+
+-- the contract of the top call holds; a replay or a serve that is told to its end is faithful
+pub record KeepsPromise {L : Type 0} (words : List (List ℕ)) (top : TopRun L) : Type 0 where
+  pub ran : IsTopRun words top
+  pub replays : (replay : Replay) (given : Given)
+      → command_of words ≡ Some (commands.Replay replay)
+      → HoldGiven top.seen.files.before.file replay given
+      → IsReplayTold top → HasReplayedFaithfully replay given top
+  pub serves : (serving : ServeArgs) → command_of words ≡ Some (commands.Serve serving)
+      → IsToldToEnd top → HasServedFaithfully serving top
