@@ -1,11 +1,11 @@
 #!/usr/bin/env python3
 """Serves the calendar through nginx with the files of deploy/: TLS, accounts and passwords, cookies that are forged,
 forms of other sites, pages of the site in place of errors, several applications, an audit that is rotated, backups, a
-standby, and a service that is started again. Words: the program. Prints each case that fails, and ends with a count.
-What isn't installed is left out, and that is said.
+standby, a port that is handed over, and 20 restarts under requests. Words: the program. Prints each case that fails,
+and ends with a count. What isn't installed is left out, and that is said.
 
-With --handed it also serves under load for some minutes, with the port handed over by whoever starts the program: no
-request may fail. Without it that is left out."""
+With --load it also serves 32 and 300 clients for some minutes, beside other work: no request may fail. Without it that
+is left out."""
 import argparse
 import base64
 import concurrent.futures
@@ -47,7 +47,6 @@ BOARD = 'board'
 ACCOUNTS = 'ann 4096 active\nbob 4160 active\neve - active\n'
 EVENTS = 300
 RESTARTS = 20
-HANDED = 'the option --handed, for a program that takes a port which is handed over, isn\'t given: '
 
 
 def site_text(folder, tls, plain_port, port, static):
@@ -743,16 +742,14 @@ def served_parts(site):
         jac.stop()
 
 
-def handed_parts(site, handed):
-    if not handed:
-        yield Skipped(HANDED + 'a port that is handed over, an audit that is rotated without a request lost, restarts, '
-                      '32 and 300 clients')
-        return
-    for part in (takes_the_port, lambda each: rotated(each, handed=True), restarts, heavy):
-        yield from part(site)
+def loaded(site, load):
+    if load:
+        yield from heavy(site)
+    else:
+        yield Skipped('the option --load isn\'t given: 32 clients for a minute, three times, and 300 clients')
 
 
-def through_nginx(program, handed):
+def through_nginx(program, load):
     missing = [name for name in ('nginx', 'openssl', 'htpasswd') if not shutil.which(name)]
     if missing:
         yield Skipped('all that goes through nginx: %s is not installed' % ', '.join(missing))
@@ -764,9 +761,10 @@ def through_nginx(program, handed):
                 yield 'nginx takes the files: ' + site.told()
                 return
             yield from served_parts(site)
-            for part in (restored, two_applications, started_again, rotated):
+            for part in (restored, two_applications, started_again, rotated, takes_the_port,
+                         lambda each: rotated(each, handed=True), restarts):
                 yield from part(site)
-            yield from handed_parts(site, handed)
+            yield from loaded(site, load)
         finally:
             close(site.run)
 
@@ -774,11 +772,10 @@ def through_nginx(program, handed):
 def main():
     reader = argparse.ArgumentParser(description=__doc__.split('\n\n')[0])
     reader.add_argument('program', help='./jac, or a trial')
-    reader.add_argument('--handed', action='store_true',
-                        help='also some minutes of load, with a port that is handed over')
+    reader.add_argument('--load', action='store_true', help='also some minutes of 32 and of 300 clients')
     words = reader.parse_args()
     program = proved.program(words.program)
-    parts = units(program), accounts(program), guarded_names(program), through_nginx(program, words.handed)
+    parts = units(program), accounts(program), guarded_names(program), through_nginx(program, words.load)
     report(result for part in parts for result in part)
 
 
