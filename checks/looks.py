@@ -414,6 +414,12 @@ def of_accepted(folder):
         have = (status, re.sub(r'(?m)^(?:    .*|.*look at this.*)\n', '', out).replace(path, 'fire.app'),
                 [entry for *_, entry in places(path, out)])
         yield None if have == want else '%s: want %s, have %s' % (name, want, have)
+    stray = os.path.join(folder, 'fire.accepted')
+    with open(stray, 'w', encoding='utf-8'):
+        status, out = run(look, [path])
+    os.unlink(stray)
+    right = out.startswith('look: %s is not read: the name is %s.accepted\n' % (stray, path))
+    yield None if right else 'a file of another name: %d, %s' % (status, out)
 
 
 def of_refusals(folder):

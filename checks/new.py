@@ -97,7 +97,7 @@ def commands(folder):
 def of_readme(folder):
     """What is wrong with the commands of README.md that end by themselves."""
     found = dict(commands(folder))
-    yield None if set(found) == {'check', 'walk', 'serve', 'look.py'} else 'README.md has the commands %s' % list(found)
+    yield None if set(found) == {'check', 'walk', 'serve', 'dev', 'look.py'} else 'README.md has the commands %s' % list(found)
     for name, said in (('check', 'ok 2 models'), ('walk', 'all met'), ('look.py', 'nothing to look at')):
         status, out = run(found[name], folder)
         yield None if status == 0 and said in out else '%s: %d, %s' % (name, status, out)

@@ -84,6 +84,14 @@ def accepted_name(application):
     return os.path.join(application, 'app.accepted') if os.path.isdir(application) else application + '.accepted'
 
 
+def misplaced(application):
+    """Files beside an application, or in its folder, that look as if they had what was accepted, and aren't read."""
+    whole = os.path.normpath(application)
+    names = [whole + '.accepted', os.path.join(whole, 'main.accepted'), os.path.splitext(whole)[0] + '.accepted']
+    read = os.path.normpath(accepted_name(application))
+    return [name for name in dict.fromkeys(names) if name != read and os.path.isfile(name)]
+
+
 def read_accepted(name):
     try:
         with open(name, encoding='utf-8') as file:
@@ -126,6 +134,8 @@ def main(words):
     given = options(words)
     try:
         data = read_application(given.application)
+        for name in [] if given.accepted else misplaced(given.application):
+            print('look: %s is not read: the name is %s' % (name, accepted_name(given.application)), file=sys.stderr)
         accepted = read_accepted(given.accepted or accepted_name(given.application))
         lines, count = looked(data, given.application, accepted)
     except Refused as refused:

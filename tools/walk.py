@@ -433,9 +433,12 @@ def run(given):
 
 
 def main():
-    given = parser().parse_args()
+    given = parser().parse_intermixed_args()
     try:
         return 0 if run(given) else 1
+    except BrokenPipeError:
+        # whoever reads has enough, and what is left to flush has no reader either
+        os.dup2(os.open(os.devnull, os.O_WRONLY), sys.stdout.fileno())
     except Malformed as fault:
         print(fault)
     except (Stopped, assemble.Fault, OSError) as fault:
