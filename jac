@@ -48,6 +48,29 @@ choose_command() {
     done
 }
 
+# An upgrade first keeps a copy of the store.
+keep_a_copy() {
+    command=(python3 "$top/tools/store_copies.py" upgrade "${command[@]}")
+}
+
+# A store that is a pipe is refused at once: the program would wait for who writes to it.
+refuse_a_pipe() {
+    local word store= before=
+    for word in "$@"; do
+        case $word in
+            --) break ;;
+            --db=*) store=${word#--db=} ;;
+            *) [ "$before" != --db ] || store=$word ;;
+        esac
+        before=$word
+    done
+    if [ -p "$store" ]; then
+        tell "$store: a pipe is no store"
+        echo 'store fault'
+        exit 6
+    fi
+}
+
 # A command that ends by itself. Where it refuses its words, an application or a store, standard error says which word, and
 # has the place, with a mark under it, or the first difference.
 run_to_end() {
@@ -66,9 +89,14 @@ put_finger() {
 [ "${1-} ${2-}" != 'dev --help' ] || exec python3 "$top/tools/dev.py" '' --help
 choose
 choose_command "$@"
+refuse_a_pipe "$@"
 case ${1-} in
     dev) exec python3 "$top/tools/dev.py" "${program-}" "${@:2}" ;;
-    check | replay | dump | demo | upgrade | why) run_to_end "$@" ;;
+    upgrade)
+        keep_a_copy
+        run_to_end "$@"
+        ;;
+    check | replay | dump | demo | why) run_to_end "$@" ;;
     serve)
         [ -n "${JAC_PROVED-}" ] || put_finger "$@"
         exec "${command[@]}" "$@"

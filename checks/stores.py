@@ -22,6 +22,11 @@ import proved
 from serving import served
 
 PROGRAM = proved.program(sys.argv[1])
+TOP = os.path.dirname(os.path.dirname(os.path.abspath(__file__)))
+# the script copies a store before its upgrade; beside any other program it is done as the script does it
+IS_SCRIPT = proved.is_script(PROGRAM) or PROGRAM == proved.PROVED
+UPGRADE = [os.path.join(TOP, 'jac')] if IS_SCRIPT else [
+    sys.executable, os.path.join(TOP, 'tools', 'store_copies.py'), 'upgrade', PROGRAM]
 KILLS, UPGRADES = (int(sys.argv[2]),) * 2 if len(sys.argv) > 2 else (50, 100)
 CALENDAR = b'''(app (viewer User)
  (model User (fields (name text)))
@@ -455,6 +460,82 @@ def upgraded(at):
     yield expect('an upgrade of damaged rows, afterwards', at.content(), before)
 
 
+def upgrade_with_a_copy(at, **given):
+    """The status, the output and what standard error says of an upgrade by the script."""
+    done = subprocess.run([*UPGRADE, 'upgrade', 'a', 'n', '--db', 'd'], cwd=at.folder, timeout=120,
+                          stdin=subprocess.DEVNULL, stdout=subprocess.PIPE, stderr=subprocess.PIPE, **given)
+    return done.returncode, done.stdout, done.stderr
+
+
+def copies_in(at):
+    return sorted(name for name in os.listdir(at.folder) if name.startswith('d.before-upgrade-'))
+
+
+def no_more_bytes():
+    """Lets a process write no byte into files."""
+    signal.signal(signal.SIGXFSZ, signal.SIG_IGN)
+    resource.setrlimit(resource.RLIMIT_FSIZE, (0, 0))
+
+
+def copied_before(at):
+    """An upgrade by the script keeps a copy of the store, with what is in its log alone, under the first free name."""
+    at.write('n', NEXT)
+    at.write('a', PLAIN)
+    yield expect('no store', upgrade_with_a_copy(at)[:2], (6, b'store fault\n'))
+    yield expect('no store, no copy', (copies_in(at), os.path.exists(at.store)), ([], False))
+    with served(PROGRAM, 'a', 2, at.folder, ('--db', 'd')) as serve:
+        line = http.client.HTTPConnection('127.0.0.1', serve.port, timeout=10)
+        line.request('POST', '/join', b'name=Ann', {'Content-Type': 'application/x-www-form-urlencoded'})
+        yield expect('a join', line.getresponse().status, 200)
+        yield expect('a store that is served', upgrade_with_a_copy(at)[:2], (6, b'store fault\n'))
+        yield expect('a store that is served, no copy', copies_in(at), [])
+        serve.run.kill()
+        serve.run.wait()
+    os.chmod(at.store, 0o640)
+    old = at.run('dump', 'a', '-', '--db', 'd')
+    at.write('d.before-upgrade-1', b'of somebody else')
+    yield expect('no room for a copy', upgrade_with_a_copy(at, preexec_fn=no_more_bytes)[0], 6)
+    yield expect('no room, no copy', copies_in(at), ['d.before-upgrade-1'])
+    yield expect('no room, the store', at.run('dump', 'a', '-', '--db', 'd'), old)
+    done = upgrade_with_a_copy(at)
+    yield expect('an upgrade with a copy', done[:2], (0, b'upgraded 1 records\n'))
+    yield expect('where the copy is', b'jac: a copy of d from before the upgrade is d.before-upgrade-2\n' in done[2], True)
+    yield expect('the copy', at.run('dump', 'a', '-', '--db', 'd.before-upgrade-2'), old)
+    yield expect('who may read it', os.stat(at.store + '.before-upgrade-2').st_mode & 0o777, 0o640)
+    yield expect('the store', at.run('dump', 'n', '-', '--db', 'd')[1], b'User 4096 name="someone"\nnumber 2\n')
+
+
+def copied_with_its_log(at):
+    """What a run that was killed left in the log alone is in the copy, byte for byte."""
+    at.write('n', NEXT)
+    at.write('a', PLAIN)
+    with served(PROGRAM, 'a', 2, at.folder, ('--db', 'd')) as serve:
+        line = http.client.HTTPConnection('127.0.0.1', serve.port, timeout=10)
+        line.request('POST', '/join', b'name=Ann', {'Content-Type': 'application/x-www-form-urlencoded'})
+        yield expect('a join in the log', line.getresponse().status, 200)
+        serve.run.kill()
+        serve.run.wait()
+    before = {}
+    for end in '', '-wal':
+        with open(at.store + end, 'rb') as file:
+            before[end] = file.read()
+    yield expect('a log', len(before['-wal']) > 0, True)
+    yield expect('an upgrade with a log', upgrade_with_a_copy(at)[:2], (0, b'upgraded 1 records\n'))
+    for end, was in before.items():
+        with open(at.store + '.before-upgrade-1' + end, 'rb') as file:
+            yield expect('a copy with its log, d' + end, file.read() == was, True)
+
+
+def piped(at):
+    """The script refuses a store that is a pipe, and doesn't wait for who writes to it."""
+    at.write('a', PLAIN)
+    os.mkfifo(at.store)
+    for words in (('--db', 'd'), ('--db=d',)) if IS_SCRIPT else ():
+        done = subprocess.run([*UPGRADE, 'dump', 'a', '-', *words], cwd=at.folder, timeout=20, stdin=subprocess.DEVNULL,
+                              stdout=subprocess.PIPE, stderr=subprocess.PIPE)
+        yield expect('a pipe, ' + ' '.join(words), (done.returncode, done.stdout), (6, b'store fault\n'))
+
+
 def many(at, count):
     """Makes a store of so many records, half of them closed events, and gives what dumps put before an upgrade and behind
     it, while no label is shown."""
@@ -544,7 +625,8 @@ def fresh():
 def main():
     results = []
     for part in (kept, spelled, shaped, made_by_hand, damaged, refused, missing, refused_dump, refused_upgrade, held, full,
-                 of_another, of_another_program, killed, upgraded, upgrades_killed, upgrade_of_many):
+                 of_another, of_another_program, killed, upgraded, copied_before, copied_with_its_log,
+                 piped, upgrades_killed, upgrade_of_many):
         with fresh() as at:
             results += list(part(at)) or [None]
     for wrong in filter(None, results):

@@ -11,7 +11,6 @@ import argparse
 import html
 import os
 import re
-import subprocess
 import sys
 import tempfile
 import time
@@ -24,6 +23,7 @@ import application                                                          # no
 import audit                                                                # noqa: E402
 import finger                                                               # noqa: E402
 import hidden                                                               # noqa: E402
+import store_copies                                                         # noqa: E402
 
 EVERY = 20          # seconds between two lines that tell how far it is
 WIDE = 30           # characters of a record's name
@@ -128,10 +128,6 @@ whether the viewer of its column is shown what is guarded in its row: <span clas
 <script>%(script)s</script>
 </html>
 '''
-
-
-class Fault(Exception):
-    """Why there is no page."""
 
 
 def escaped(text):
@@ -264,10 +260,7 @@ def page(options, names, known, columns):
 def made(options, room):
     """The page of a copy of the store."""
     copy = os.path.join(room, 'copy.db')
-    done = subprocess.run([sys.executable, os.path.join(TOP, 'deploy', 'backup.py'), options.db, copy],
-                          stdin=subprocess.DEVNULL, stdout=subprocess.PIPE, stderr=subprocess.STDOUT, check=False)
-    if done.returncode:
-        raise Fault('%s can\'t be copied: %s' % (options.db, done.stdout.decode('utf-8', 'replace').split('\n')[-2]))
+    store_copies.copy_served(options.db, copy)
     data, text = application.read(options.app), os.path.join(room, 'text')
     with open(text, 'wb') as file:
         file.write(data)
@@ -307,7 +300,7 @@ def main(words):
     try:
         with tempfile.TemporaryDirectory(prefix='jac-matrix-') as room:
             text = made(options, room)
-    except (Fault, application.Fault, hidden.Fault, OSError) as fault:
+    except (store_copies.Fault, application.Fault, hidden.Fault, OSError) as fault:
         sys.exit('access_matrix: %s' % fault)
     if options.output:
         with open(options.output, 'w', encoding='utf-8') as file:
