@@ -87,9 +87,9 @@ put_finger() {
 
 [ "${1-} ${2-}" != 'walk --help' ] || exec python3 "$top/tools/walk.py" --help
 [ "${1-} ${2-}" != 'dev --help' ] || exec python3 "$top/tools/dev.py" '' --help
+case ${1-} in dev | dump | replay | serve | upgrade | why) refuse_a_pipe "$@" ;; esac
 choose
 choose_command "$@"
-refuse_a_pipe "$@"
 case ${1-} in
     dev) exec python3 "$top/tools/dev.py" "${program-}" "${@:2}" ;;
     upgrade)
