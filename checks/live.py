@@ -129,8 +129,9 @@ def refused(folder):
                  (1, '', 'live: out.db is there already\n'))
     status, out, told = look(folder, 'export', 'app', '-', 'none.out', store='none.db')
     yield expect('no store', (status, out, told[:33]), (1, '', "live: none.db can't be copied: Fi"))
-    status, out, told = look(folder, 'as', 'app', 'Bob')
-    yield expect('no viewer', (status, out, 'or - for nobody' in told), (2, '', True))
+    for word in 'Bob', str(2 ** 128):
+        status, out, told = look(folder, 'as', 'app', word)
+        yield expect('no viewer', (status, out, 'VIEWER is the number of a record, or - for nobody' in told), (2, '', True))
     with open(os.path.join(folder, 'other'), 'w', encoding='utf-8') as file:
         file.write(APP.replace('(phone text)', '(mobile text)', 1).replace('(phone "none")', '(mobile "none")').replace(
             '(phone phone)', '(mobile phone)'))

@@ -26,6 +26,7 @@ TOP = os.path.dirname(TOOLS)
 sys.path.insert(0, TOOLS)
 import application                                                          # noqa: E402
 import audit                                                                # noqa: E402
+import commands                                                             # noqa: E402
 import finger                                                               # noqa: E402
 import hidden                                                               # noqa: E402
 import schema                                                               # noqa: E402
@@ -207,23 +208,27 @@ def run_export(options, room):
     return []
 
 
-def viewer_word(word):
-    if not re.fullmatch(r'\d{1,39}|-', word):
-        raise argparse.ArgumentTypeError('a viewer is the number of a record, or - for nobody')
-    return word
+def operand(name):
+    """What reads an operand as the program does."""
+    def read(word):
+        wrong = commands.operand_words(name, word)
+        if wrong:
+            raise argparse.ArgumentTypeError(wrong)
+        return word
+    return read
 
 
 def options_of(words):
     parser = argparse.ArgumentParser(description=__doc__, allow_abbrev=False,
                                      formatter_class=argparse.RawDescriptionHelpFormatter)
-    commands = parser.add_subparsers(metavar='COMMAND', required=True)
+    choice = parser.add_subparsers(metavar='COMMAND', required=True)
     for name, run, operands in (('dump', run_dump, ['labels']), ('why', run_why, ['viewer']), ('as', run_as, ['viewer']),
                                 ('export', run_export, ['viewer', 'file'])):
-        command = commands.add_parser(name, allow_abbrev=False)
+        command = choice.add_parser(name, allow_abbrev=False)
         command.set_defaults(run=run)
         command.add_argument('app', metavar='APP', help='the application, a file or a folder')
-        for operand in operands:
-            command.add_argument(operand, metavar=operand.upper(), type=viewer_word if operand == 'viewer' else str)
+        for word in operands:
+            command.add_argument(word, metavar=word.upper(), type=operand(word.upper()))
         command.add_argument('--db', metavar='STORE', required=True, help='the store, of which a copy is read')
         command.add_argument('--program', metavar='FILE', default=os.path.join(TOP, 'jac'),
                              help='the program, instead of ./jac')
