@@ -9,6 +9,7 @@ such walk fails. Words: the program, and a folder for pictures of the pages, if 
 fails, and ends with a count. Where Chromium isn't installed nothing is done, and that is said (installed.py)."""
 import base64
 import contextlib
+import functools
 import http.server
 import itertools
 import json
@@ -34,6 +35,7 @@ CLICKS, MOST, WALKS, NEVER = 50, 0.3, 10, 5
 STUCK = 2           # walks in which a page takes so long
 SHARE = 2           # times what the plain page took
 LAST = 300          # seconds after which no further walk begins
+PHONE, DESKTOP = 390, 1280
 
 # Fills the form whose action ends so, and sends it as its button does.
 SEND = '''((end, fields) => {
@@ -53,6 +55,7 @@ PRESS = '''((end, text) => Array.from(document.querySelectorAll(`form[action$="$
   .find((button) => button.textContent === text).click())(%s, %s)'''
 FOLLOW = 'Array.from(document.links).find((link) => link.text === %s).click()'
 TEXT = 'document.body.innerText'
+WIDTH = 'document.documentElement.scrollWidth'
 
 
 class Broken(Exception):
@@ -62,12 +65,12 @@ class Broken(Exception):
 class Browser:
     """A Chromium that is spoken to in JSON over two pipes, each message ended by a NUL."""
 
-    def __init__(self, program, folder):
+    def __init__(self, program, folder, *further):
         asked, self.asks = os.pipe()
         self.answers, answered = os.pipe()
         command = 'exec "$0" "$@" 3<&%d 4>&%d' % (asked, answered)
         flags = ['--headless', '--no-sandbox', '--disable-gpu', '--disable-dev-shm-usage', '--no-first-run',
-                 '--remote-debugging-pipe', '--user-data-dir=' + folder, 'about:blank']
+                 '--remote-debugging-pipe', '--user-data-dir=' + folder, *further, 'about:blank']
         self.run = subprocess.Popen(['bash', '-c', command, program, *flags], pass_fds=(asked, answered),
                                     stdin=subprocess.DEVNULL, stdout=subprocess.DEVNULL, stderr=subprocess.DEVNULL)
         os.close(asked)
@@ -158,6 +161,10 @@ class Page:
             data = self.call('Page.captureScreenshot', captureBeyondViewport=True)['data']
             with open(os.path.join(PICTURES, '%s-%02d.png' % (self.name, self.shots)), 'wb') as file:
                 file.write(base64.b64decode(data))
+
+    def screen(self, width, height=800):
+        self.call('Emulation.setDeviceMetricsOverride', width=width, height=height, deviceScaleFactor=1,
+                  mobile=width == PHONE)
 
     def be(self, token):
         self.call('Network.clearBrowserCookies')
@@ -293,22 +300,25 @@ def courses(page):
     yield shows('no page', page.go('/nothing'), 'No such page', status=404)
 
 
-def walk(program, folder, name, steps):
+def walk(program, folder, name, steps, serve, *further):
     """What each step of a walk lacks, if anything. Where the browser can't take a step, the walk begins anew in another
-    one."""
-    app = os.path.join(TOP, 'examples', name)
+    one, at what `serve` then serves."""
     for place in range(BROWSERS):
-        results = []
-        with served(PROGRAM, 'app', 1000, app, ('--sessions', 'sessions')) as run, \
-                contextlib.closing(Browser(program, os.path.join(folder, '%s-%d' % (name, place)))) as browser:
+        results, own = [], os.path.join(folder, '%s-%d' % (name, place))
+        with serve() as server, contextlib.closing(Browser(program, own, *further)) as browser:
             try:
-                for wrong in steps(Page(browser, run, name)):
+                for wrong in steps(Page(browser, server, name)):
                     results.append(wrong and '%s: %s' % (name, wrong))
                 break
             except Broken as broken:
                 results.append('%s: %s' % (name, broken))
                 print('%s, browser %d of %d: %s' % (name, place + 1, BROWSERS, broken), flush=True)
     return results
+
+
+def example(name):
+    """An application of examples/, served."""
+    return served(PROGRAM, 'app', 1000, os.path.join(TOP, 'examples', name), ('--sessions', 'sessions'))
 
 
 def clicks(page, name):
@@ -426,7 +436,8 @@ def main():
     # what the browser still writes as it ends may be left behind
     with tempfile.TemporaryDirectory(ignore_cleanup_errors=True) as folder:
         for steps in (calendar, conference, health, courses):
-            results += walk(found, folder, steps.__name__, steps)
+            name = steps.__name__
+            results += walk(found, folder, name, steps, functools.partial(example, name))
         results += in_turn(found, folder)
     for wrong in filter(None, results):
         print('FAILED ' + wrong)

@@ -125,6 +125,9 @@ class Client:
         self.port, self.trusted, self.own = port, trusted, 'https://%s:%d' % (host, port)
         self.host = '%s:%d' % (host, port)
 
+    def address(self, path):
+        return self.own + path
+
     def ask(self, method, path, headers=(), body=None, host=None):
         """The status, the headers and the body of a reply."""
         line = http.client.HTTPSConnection('localhost', self.port, timeout=20, context=self.trusted)

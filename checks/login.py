@@ -1,8 +1,10 @@
 #!/usr/bin/env python3
 """Logs in and out of the calendar on the pages of Apache, with the files of deploy/: wrong passwords, a login that ran
 out, forged cookies, forms of other sites, accounts that are disabled or have another password, and the site's own pages
-for errors. Words: the program. Prints each case that fails, and ends with a count. Where Apache or what it needs isn't
-installed, nothing is done, and that is said."""
+for errors. The same is walked in a headless Chromium, which also shows the pages of accounts as a phone and a desktop
+do. Words: the program. With --pictures FOLDER it writes a picture of each page of that walk there. Prints each case
+that fails, and ends with a count. Where Apache or what it needs isn't installed, nothing is done, and that is said. The
+walk is left out where Chromium isn't installed."""
 import argparse
 import contextlib
 import os
@@ -16,6 +18,8 @@ import tempfile
 import time
 
 sys.dont_write_bytecode = True
+import browser                                                                  # noqa: E402
+import installed                                                                # noqa: E402
 import proved                                                                   # noqa: E402
 from fronts import (CALENDAR, DEPLOY, HOST_NAME, PASSWORDS, TOP, Client, Skipped, account, add_accounts,  # noqa: E402
                     certify, close, expect, placed, plain, read, report, secured, service, settle, shows, site_files,
@@ -181,6 +185,96 @@ def people(site):
     yield expect('a large form', site.form('/people', {'name': 'x' * 60000}, [eve, own])[0], 404)
     for method in ('PUT', 'DELETE', 'TRACE'):
         yield expect(method, site.ask(method, '/', [ann, ('Content-Length', '0')])[0], 405)
+
+
+# In a browser.
+
+PLACE = 'location.pathname + location.search'
+FOCUS = 'document.activeElement.name'
+# How wide the window is, whether the main part stands within so many pixels, and what the style sheet says of it.
+LOOKS = '''(() => { const main = document.querySelector("main"), box = main.getBoundingClientRect();
+  return `${innerWidth} ${box.left >= 0 && box.right <= %d} ${getComputedStyle(main).borderRadius}`; })()'''
+TITLE = 'Surprise party'
+NO_EVENT = [TITLE, 'You are']
+
+
+def arrives(name, page, shown, place, *texts, but=()):
+    """The browser is at this place, whose page shows these texts and none of those."""
+    return browser.shows(name, shown, *texts, but=but) or expect(name, page.run(PLACE), place)
+
+
+def press_key(page, key, **params):
+    page.call('Input.dispatchKeyEvent', type='keyDown', key=key, **params)
+
+
+def gives(page, name, password):
+    """Types a login by the keyboard alone: the page comes with the focus on the field for the name."""
+    if not until(lambda: page.run(FOCUS) == 'httpd_username', 5):
+        raise browser.Broken('the field for the name has no focus')
+    page.call('Input.insertText', text=name)
+    press_key(page, 'Tab', windowsVirtualKeyCode=9)
+    page.call('Input.insertText', text=password)
+    return page.loaded(press_key, page, 'Enter', windowsVirtualKeyCode=13, text='\r')
+
+
+def leaves(page):
+    """Presses the button to log out, on the page that has it."""
+    page.go('/account/logout.html')
+    return page.press('/account/out', 'Log out')
+
+
+def ann_comes(page):
+    """Ann is asked who she is, mistypes her password, arrives at the page that she asked for, and adds an event."""
+    asked, wrong = '/account/login.html?/people', 'The name or the password was wrong.'
+    yield arrives('a page without a login', page, page.go('/people'), asked, 'Log in', 'Name', 'Password',
+                  but=[wrong, 'You are', 'Cleo'])
+    yield arrives('a wrong password', page, gives(page, 'ann', PASSWORDS['bob']), '/account/wrong.html?/people', wrong,
+                  but=['You are', 'Cleo'])
+    yield arrives('the right one', page, gives(page, 'ann', PASSWORDS['ann']), '/people', 'You are Ann.', 'Cleo')
+    yield arrives('the next page', page, page.go('/'), '/', 'You are Ann.', 'A new event')
+    shown = page.send('/events', title=TITLE, day='2026-12-24', place='Room 2')
+    yield browser.shows('a new event', shown, TITLE, 'Room 2', 'The host is Ann.')
+
+
+def walked(page):
+    """Ann comes and goes, Bob comes to the page of her event, and the pages of accounts are looked at."""
+    yield from ann_comes(page)
+    event = page.run(PLACE)
+    yield None if re.fullmatch(r'/event/\d+', event) else 'a new event: at %s' % event
+    yield arrives('a logout', page, leaves(page), '/account/login.html', 'Log in', but=NO_EVENT)
+    yield arrives('the event after the logout', page, page.go(event), '/account/login.html?' + event, 'Log in',
+                  but=NO_EVENT)
+    yield arrives('the event for bob', page, gives(page, 'bob', PASSWORDS['bob']), event, 'You are Bob.', 'busy',
+                  but=[TITLE, 'Room 2'])
+    yield arrives('a logout of bob', page, leaves(page), '/account/login.html', 'Log in', but=['You are'])
+    yield arrives('all pages after it', page, page.go('/'), '/account/login.html?/', 'Log in', but=['You are', 'busy'])
+    page.go('/account/login.html?' + event)
+    yield arrives('the event for ann', page, gives(page, 'ann', PASSWORDS['ann']), event, 'You are Ann.', TITLE,
+                  but=['busy'])
+    yield from widths(page)
+
+
+def widths(page):
+    """The pages of accounts are no wider than the screen, and styled under the policy of content."""
+    for width in (browser.PHONE, browser.DESKTOP):
+        page.screen(width)
+        for name in ('login', 'wrong', 'logout'):
+            page.go('/account/%s.html' % name)
+            about, wide = '%s.html in %d pixels' % (name, width), page.run(browser.WIDTH)
+            yield None if wide <= width else '%s: %d are needed' % (about, wide)
+            yield expect(about, page.run(LOOKS % width), '%d true 6px' % width)
+
+
+def in_chromium(site):
+    """The walk, over a calendar that is set up. No browser knows the certificate, which is made here."""
+    found = installed.find(*browser.NAMES)
+    if not found:
+        yield Skipped('the walk in a browser: %s' % installed.told(browser.NAMES))
+        return
+    # what the browser still writes as it ends may be left behind
+    with tempfile.TemporaryDirectory(ignore_cleanup_errors=True) as folder:
+        yield from browser.walk(found, folder, 'in a browser', walked, lambda: contextlib.nullcontext(site),
+                                '--ignore-certificate-errors')
 
 
 def other_sites(site):
@@ -352,12 +446,14 @@ def lacking():
 def main():
     reader = argparse.ArgumentParser(description=__doc__.split('.')[0])
     reader.add_argument('program', help='./jac, or a trial')
+    reader.add_argument('--pictures', metavar='FOLDER', help='a folder for pictures of the pages in a browser')
     words = reader.parse_args()
+    browser.PICTURES = words.pictures
     missing = lacking()
     if missing:
         report([Skipped('all of it: %s is not installed' % ', '.join(missing))])
     program = proved.program(words.program)
-    parts = documented, logins, people, other_sites, headers_of, slow_forms, ends
+    parts = documented, logins, people, in_chromium, other_sites, headers_of, slow_forms, ends
     report([*results_of(program, 28800, parts), *results_of(program, 6, [runs_out])])
 
 

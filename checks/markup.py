@@ -30,6 +30,7 @@ import urllib.parse
 sys.dont_write_bytecode = True
 import browser                                                              # noqa: E402
 import proved                                                               # noqa: E402
+from browser import DESKTOP, PHONE, WIDTH                                   # noqa: E402
 from serving import HOST, served                                            # noqa: E402
 
 TOP = proved.TOP
@@ -40,7 +41,6 @@ import assemble                                                             # no
 
 POLICY = "default-src 'none'; style-src 'self' 'unsafe-inline'; img-src 'self' data:; form-action 'self'; " \
     "base-uri 'none'; frame-ancestors 'none'"
-PHONE, DESKTOP = 390, 1280
 LONG = 'Donaudampfschifffahrtsgesellschaftskapitaen' * 4
 LINES = 'The first line.\nThe second one.'
 # paths that no link leads to: what isn't there, and what is put out whole
@@ -394,7 +394,6 @@ class Address:
         return 'http://%s:%d%s' % (HOST, self.port, path)
 
 
-WIDTH = 'document.documentElement.scrollWidth'
 STYLED = 'getComputedStyle(document.querySelector("header")).display'
 
 
@@ -418,11 +417,6 @@ def refusals_of_the_browser(page):
     page.run('1')
     said, page.browser.said = page.browser.said, []
     return said
-
-
-def screen(page, width, height=800):
-    page.call('Emulation.setDeviceMetricsOverride', width=width, height=height, deviceScaleFactor=1,
-              mobile=width == PHONE)
 
 
 def picture(page, folder, name):
@@ -452,7 +446,7 @@ def looked_at(site, page, pictures):
     for viewer, path in largest(site):
         page.be(site.tokens.get(viewer))
         name = '%s, %s as %s' % (site.name, path, site.tokens.get(viewer, 'nobody'))
-        screen(page, PHONE)
+        page.screen(PHONE)
         page.go(path)
         width, styled, said = page.run(WIDTH), page.run(STYLED), refusals_of_the_browser(page)
         yield None if width <= PHONE else '%s: %d pixels wide on a phone' % (name, width)
@@ -461,7 +455,7 @@ def looked_at(site, page, pictures):
         if pictures:
             file = re.sub(r'\W+', '-', name).strip('-')
             picture(page, pictures, file + '-phone')
-            screen(page, DESKTOP)
+            page.screen(DESKTOP)
             picture(page, pictures, file + '-desktop')
 
 
