@@ -1,4 +1,5 @@
 pub mod CellLists
+pub mod Html
 pub mod Ids
 pub mod Names
 pub mod Parts
@@ -6,3 +7,4 @@ pub mod Paths
 pub mod Quoted
 pub mod SameValue
 pub mod Values
+pub mod Visitors

@@ -13,6 +13,9 @@ use std::alloc::Global;
 use std::cmp::Ordering;
 use std::marker::Model;
 
+// How many bytes are compared one by one.
+const FEW: usize = 16;
+
 /// Text in UTF-8 (RFC 3629), ordered by its bytes.
 #[derive(Debug, Drop)]
 pub struct Txt {
@@ -106,7 +109,7 @@ impl PartialEq for Txt {
     ghost laws = { Prim.search (comparing, rules) };
 
     fn eq(&self, other: &Txt) -> bool {
-        self.as_bytes() == other.as_bytes()
+        same_bytes(self.as_bytes(), other.as_bytes())
     }
 }
 
@@ -136,6 +139,36 @@ impl Ord for Txt {
     fn cmp(&self, other: &Txt) -> Ordering {
         self.as_bytes().cmp(&other.as_bytes())
     }
+}
+
+// Whether the bytes are the same. Few bytes are compared one by one, which takes less time than a
+// comparison of slices.
+fn same_bytes(one: &[u8], other: &[u8]) -> bool
+    ensures { result ≡ pointwise ◌==◌ one.now other.now }
+{
+    if one.len() != other.len() {
+        return false;
+    }
+    if one.len() > FEW {
+        return one == other;
+    }
+    same_few(one, other)
+}
+
+fn same_few(one: &[u8], other: &[u8]) -> bool
+    ensures { result ≡ pointwise ◌==◌ one.now other.now }
+{
+    let mut left = other;
+    'bytes: for byte in one {
+        let Some((first, rest)) = left.split_first() else {
+            return false;
+        };
+        if byte != first {
+            return false;
+        }
+        left = rest;
+    }
+    left.is_empty()
 }
 
 /// A copy of the name, if there is one.

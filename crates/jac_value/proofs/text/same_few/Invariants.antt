@@ -1,0 +1,7 @@
+use Rattle.std.proofs.Common.{◌≡◌, drop, ◌==◌}
+use Rattle.std.specs.Cmp.Lexicographic.{pointwise}
+use Rattle.jac_value.proofs.text.same_few.Given as goal
+
+-- what is left is the same where all is
+abbrev pub invariant-bytes : goal.invariant-bytes
+invariant-bytes l = pointwise ◌==◌ (drop l.byte-index l.one) l.left ≡ pointwise ◌==◌ l.one l.other
