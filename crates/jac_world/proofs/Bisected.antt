@@ -1,5 +1,5 @@
 -- Rising labels that are searched by bisection; one more in its place, and one less.
-use Rattle.std.proofs.Common.{◌≡◌, ◌<◌, ◌≤◌, ◌==◌, ◌||◌, ◌&&◌, ℕ, zero, suc, Bool, true, false, not, List, [], ◌∷◌, ◌⊎◌, inl, inr, Result, Ok, Err, is_ok, length, get_or, insert, remove, refl, ap, sym, subst, ◌∙◌, arith}
+use Rattle.std.proofs.Common.{◌≡◌, ◌<◌, ◌≤◌, ◌==◌, ◌||◌, ◌&&◌, ℕ, zero, suc, Bool, true, false, not, List, [], ◌∷◌, ◌++◌, ◌⊎◌, inl, inr, Result, Ok, Err, is_ok, length, get_or, insert, remove, refl, ap, sym, subst, ◌∙◌, arith}
 use Rattle.std.specs.List.Sorted.{IsBinarySearchResult}
 use Rattle.std.specs.Ordering.{nat_cmp}
 use Rattle.std.proofs.lemmas.Bool.{cases_lt}
@@ -33,7 +33,8 @@ none_is : (xs : List ℕ) (x : ℕ) → ((k : ℕ) → k < length xs → (get_or
 none_is [] x differ = refl
 none_is (y ∷ xs) x differ = rw (differ 0 (omega arith)) (none_is xs x (λ k less. differ (suc k) (omega (arith, less))))
 
-one_is : (xs : List ℕ) (x i : ℕ) → i < length xs → get_or xs i 0 ≡ x → shown_by xs x ≡ true
+-- a label that stands somewhere is shown
+pub one_is : (xs : List ℕ) (x i : ℕ) → i < length xs → get_or xs i 0 ≡ x → shown_by xs x ≡ true
 one_is [] x i less at = absurd (omega (arith, less))
 one_is (y ∷ xs) x zero less at = rw at (rw (itself x) refl)
 one_is (y ∷ xs) x (suc i) less at = or_right (y == x) (shown_by xs x) (one_is xs x i (omega (arith, less)) at)
@@ -93,6 +94,18 @@ pub shows_with : (xs : List ℕ) (x i : ℕ) → i ≤ length xs → (k : ℕ) �
 shows_with xs x zero within k = refl
 shows_with [] x (suc i) within k = absurd (omega (arith, within))
 shows_with (y ∷ ys) x (suc i) within k = ap (λ b. (y == k) || b) (shows_with ys x i (omega (arith, within)) k) ∙ swap (y == k) (x == k) (shown_by ys k)
+
+-- with one after them that is above the last they still rise, and show one label more
+pub ascends_end : (xs : List ℕ) (x i d : ℕ) → IsAscending xs → suc i ≡ length xs → get_or xs i d < x → IsAscending (xs ++ x ∷ [])
+ascends_end [] x i d up end above = absurd (omega (arith, end))
+ascends_end (y ∷ []) x zero d up end above = (above, (tt, tt))
+ascends_end (y ∷ []) x (suc i) d up end above = absurd (omega (arith, end))
+ascends_end (y ∷ (z ∷ zs)) x zero d up end above = absurd (omega (arith, end))
+ascends_end (y ∷ (z ∷ zs)) x (suc i) d up end above = (up.0, ascends_end (z ∷ zs) x i d up.1 (omega (arith, end)) above)
+
+pub shows_end : (xs : List ℕ) (x k : ℕ) → shown_by (xs ++ x ∷ []) k ≡ ((x == k) || shown_by xs k)
+shows_end [] x k = refl
+shows_end (y ∷ ys) x k = ap (λ b. (y == k) || b) (shows_end ys x k) ∙ swap (y == k) (x == k) (shown_by ys k)
 
 -- a label that was found is shown already
 pub shows_found : (xs : List ℕ) (x : ℕ) → shown_by xs x ≡ true → (k : ℕ) → shown_by xs k ≡ ((x == k) || shown_by xs k)

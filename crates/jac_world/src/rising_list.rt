@@ -1,5 +1,5 @@
 //! Labels by rising number, each once: searched by bisection, and changed in place.
-ghost use Rattle.std.specs.Prelude.{◌≡◌, ℕ, not, ◌==◌, ◌||◌, ◌&&◌, OnOk, OnErr};
+ghost use Rattle.std.specs.Prelude.{◌≡◌, ℕ, true, [], ◌∷◌, ◌++◌, not, ◌==◌, ◌||◌, ◌&&◌, OnOk, OnErr, IsTrue};
 ghost use Rattle.jac_world.specs.World.{shown_by, IsAscending};
 
 use crate::Label;
@@ -13,8 +13,49 @@ pub fn is_among(labels: &[Label], label: Label) -> bool
     labels.binary_search(&label).is_ok()
 }
 
-/// The same labels and this one.
+/// The same labels and this one. It takes no bisection where the label is the last of them, or
+/// above them.
 pub fn add_among(labels: &mut Vec<Label>, label: Label) -> Result<(), Memory>
+    requires { IsAscending labels.old.items }
+    ensures added { OnOk result ((k : ℕ) → shown_by labels.new.items k
+        ≡ (label == k || shown_by labels.old.items k)) }
+    ensures ascending { IsAscending labels.new.items }
+    ensures kept { OnErr result (labels.new.items ≡ labels.old.items) }
+{
+    if is_last(labels.as_slice(), label) {
+        return Ok(());
+    }
+    if is_above(labels.as_slice(), label) {
+        labels.push(label)?;
+        return Ok(());
+    }
+    add_between(labels, label)
+}
+
+// Whether it is the last of the labels.
+fn is_last(labels: &[Label], label: Label) -> bool
+    ensures { IsTrue result → shown_by labels.now label ≡ true }
+{
+    let count = labels.len();
+    if count == 0 {
+        return false;
+    }
+    labels[count - 1] == label
+}
+
+// Whether it is above the last of the labels.
+fn is_above(labels: &[Label], label: Label) -> bool
+    requires { IsAscending labels.now }
+    ensures { IsTrue result → IsAscending (labels.now ++ label ∷ []) }
+{
+    let count = labels.len();
+    if count == 0 {
+        return false;
+    }
+    labels[count - 1] < label
+}
+
+fn add_between(labels: &mut Vec<Label>, label: Label) -> Result<(), Memory>
     requires { IsAscending labels.old.items }
     ensures added { OnOk result ((k : ℕ) → shown_by labels.new.items k
         ≡ (label == k || shown_by labels.old.items k)) }

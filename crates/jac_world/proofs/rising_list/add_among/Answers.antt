@@ -1,26 +1,16 @@
-use Rattle.std.proofs.Common.{◌≡◌, ◌∙◌, List, ℕ, true, ap, subst, sym}
+use Rattle.std.proofs.Common.{◌∙◌, List, ℕ, ap, subst, sym}
 use Rattle.jac_world.specs.World.{shown_by, IsAscending}
-use Rattle.jac_world.proofs.Bisected.{among, ascends_with, place_is, shows_found, shows_with}
+use Rattle.jac_world.proofs.Bisected.{shows_end, shows_found}
 use Rattle.jac_world.proofs.rising_list.add_among.Goals as goal
 
-pub returns-in-Ok-clause-added : goal.returns-in-Ok-clause-added
-returns-in-Ok-clause-added c =
-    let xs = c.args.labels.now.items in
-    let x = c.args.label in
-    let position = rw c.as_slice.ensures.value at c.binary_search.ensures.position in
-    let there : true ≡ shown_by xs x = rw c.in-Ok.is at (among xs x c.binary_search.result c.requires position) in
-    shows_found xs x (sym there)
+pub returns-then-is_last-clause-added : goal.returns-then-is_last-clause-added
+returns-then-is_last-clause-added c =
+    shows_found c.args.labels.now.items c.args.label (rw c.as_slice.ensures.value at (c.is_last.ensures c.if-is_last.true))
 
-pub returns-in_ok-insert-in-Err-clause-added : goal.returns-in_ok-insert-in-Err-clause-added
-returns-in_ok-insert-in-Err-clause-added c k =
-    let xs = c.args.labels.now.items in
-    let position = rw (c.as_slice.ensures.value, c.in-Err.is) at c.binary_search.ensures.position in
-    let place = place_is xs c.args.label c.in-Err.place c.requires position in
-    ap (λ (l : List ℕ). shown_by l k) c.in_ok-insert-in-Err.ensures.items ∙ shows_with xs c.args.label c.in-Err.place place.within k
+pub returns-then-is_above-clause-added : goal.returns-then-is_above-clause-added
+returns-then-is_above-clause-added c k =
+    ap (λ (l : List ℕ). shown_by l k) c.in_ok-push.ensures.items ∙ shows_end c.args.labels.now.items c.args.label k
 
-pub returns-in_ok-insert-in-Err-clause-ascending : goal.returns-in_ok-insert-in-Err-clause-ascending
-returns-in_ok-insert-in-Err-clause-ascending c =
-    let xs = c.args.labels.now.items in
-    let position = rw (c.as_slice.ensures.value, c.in-Err.is) at c.binary_search.ensures.position in
-    let place = place_is xs c.args.label c.in-Err.place c.requires position in
-    subst IsAscending (sym c.in_ok-insert-in-Err.ensures.items) (ascends_with xs c.args.label c.in-Err.place c.requires place)
+pub returns-then-is_above-clause-ascending : goal.returns-then-is_above-clause-ascending
+returns-then-is_above-clause-ascending c =
+    subst IsAscending (sym c.in_ok-push.ensures.items) (rw c.as_slice-2.ensures.value at (c.is_above.ensures c.if-is_above.true))
