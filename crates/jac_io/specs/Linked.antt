@@ -34,6 +34,7 @@ pub record Takes (old new : LinkSeen) (into : List ℕ) (result : Result ℕ Ref
 pub record PutsOn (old new : LinkSeen) (bytes : List ℕ) (result : Result (Unit {0}) Refused) : Type
     0 where
   pub lasts : LinkLasts old new
+  pub same_tells : new.tells ≡ old.tells
   pub same_left : IsTrue new.tells → new.left ≡ old.left
   pub ok : IsTrue new.tells → OnOk result (new.held ≡ old.held ++ bytes)
   pub err : IsTrue new.tells → OnErr result (AddsPrefix old.held new.held bytes)
@@ -57,6 +58,7 @@ pub record DoorLasts {L : Type 0} (old new : DoorSeen L) : Type 0 where
 pub record Listens {L : Type 0} (old new : DoorSeen L) (port : ℕ) (result : Result (Unit {0})
     Refused) : Type 0 where
   pub lasts : DoorLasts old new
+  pub same_tells : new.tells ≡ old.tells
   pub same_coming : IsTrue new.tells → new.coming ≡ old.coming
   pub same_returned : IsTrue new.tells → new.returned ≡ old.returned
   pub ok : IsTrue new.tells → OnOk result (new.port ≡ Some port)
@@ -83,6 +85,7 @@ pub record AsksNext {L : Type 0} (old new : DoorSeen L) (result : Result
 pub record Returns {L : Type 0} (old new : DoorSeen L) (line : L) (result : Result (Unit {0})
     Refused) : Type 0 where
   pub lasts : DoorLasts old new
+  pub same_tells : new.tells ≡ old.tells
   pub same_coming : IsTrue new.tells → new.coming ≡ old.coming
   pub same_port : IsTrue new.tells → new.port ≡ old.port
   pub ok : IsTrue new.tells → OnOk result (new.returned ≡ old.returned ++ line ∷ [])

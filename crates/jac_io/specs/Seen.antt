@@ -3,7 +3,7 @@ use Rattle.std.specs.Prelude.{◌≡◌, ◌≤◌, ◌<◌, ◌++◌, ◌∷◌
 use Rattle.jac_io.specs.Faults.{Rose}
 use Rattle.jac_io.specs.Put.{AddsPrefix}
 use Rattle.jac_io.specs.declared.files.FileFault.{FileFault}
-use Rattle.jac_io.specs.declared.files.FileFault.TheVariants.{Failed, TooLong}
+use Rattle.jac_io.specs.declared.files.FileFault.TheVariants.{Failed, TooLong, Memory}
 use Rattle.jac_io.specs.declared.sink.Failed.{Failed as Refused}
 
 -- of files: whether they tell what they hold, the bytes by name, and how often they failed
@@ -27,6 +27,7 @@ pub record ReadsFile (old new : FilesSeen) (name : List ℕ) (limit : ℕ)
   pub too_long : IsTrue new.tells → result ≡ Err TooLong
       → IsSomeAnd (old.file name) (λ bytes. limit < length bytes)
   pub rose : result ≡ Err Failed → Rose old.faults new.faults
+  pub no_fault : result ≡ Err Memory → new.faults ≡ old.faults
 
 -- of a sink: whether it tells what was put, the bytes, each aim with how much was held by then, and
 -- how often it failed
@@ -47,6 +48,7 @@ pub record Lasts (old new : SinkSeen) : Type 0 where
 pub record Puts (old new : SinkSeen) (bytes : List ℕ) (result : Result (Unit {0}) Refused) : Type 0
   where
     pub lasts : Lasts old new
+    pub same_tells : new.tells ≡ old.tells
     pub ok : IsTrue new.tells → OnOk result (new.held ≡ old.held ++ bytes)
     pub err : IsTrue new.tells → OnErr result (AddsPrefix old.held new.held bytes)
     pub rose : OnErr result (Rose old.faults new.faults)
@@ -56,7 +58,7 @@ pub record Puts (old new : SinkSeen) (bytes : List ℕ) (result : Result (Unit {
 pub record Aims (old new : SinkSeen) (name : Option (List ℕ)) (result : Result (Unit {0}) Refused) :
     Type 0 where
   pub later : old.faults ≤ new.faults
-  pub told : IsTrue new.tells → IsTrue old.tells
+  pub same_tells : new.tells ≡ old.tells
   pub same_held : IsTrue new.tells → new.held ≡ old.held
   pub ok : IsTrue new.tells → OnOk result (new.aims ≡ old.aims ++ (name, length old.held) ∷ [])
   pub err : IsTrue new.tells → OnErr result (new.aims ≡ old.aims)
