@@ -40,7 +40,7 @@ settles gs hs fs g u p q rest t =
     let same : After (g ∷ fs) u rest t ↔ Between (more u g ∷ fs) rest t = (λ h. h, λ h. h) in
     subst (λ z. After z u rest t ↔ Between hs rest t) (sym p) (subst (λ z. After (g ∷ fs) u rest t ↔ Between z rest t) (sym q) same)
 
-shallow_more : (fs : List PlainTrees) (g : PlainTrees) (u : PlainTree) → AreShallow (g ∷ fs) → nesting u + length (g ∷ fs) ≤ 64 → AreShallow (more u g ∷ fs)
+pub shallow_more : (fs : List PlainTrees) (g : PlainTrees) (u : PlainTree) → AreShallow (g ∷ fs) → nesting u + length (g ∷ fs) ≤ 64 → AreShallow (more u g ∷ fs)
 shallow_more fs g u (h, k) n = (omega arith, k)
 
 pub settles_shallow : (gs hs fs : List PlainTrees) (g : PlainTrees) (u : PlainTree) → gs ≡ g ∷ fs → hs ≡ more u g ∷ fs
@@ -79,7 +79,7 @@ pub close_stuck : (gs : List PlainTrees) → gs ≡ [] → IsStuck gs (modes.Out
 close_stuck gs p rest t h = between_no_end rest t (subst (λ z. Between z (41 ∷ rest) t) p h)
 
 -- an opening bracket
-opens : (gs : List PlainTrees) (rest : List ℕ) (t : PlainTree) → Between gs (40 ∷ rest) t ↔ Between (none ∷ gs) rest t
+pub opens : (gs : List PlainTrees) (rest : List ℕ) (t : PlainTree) → Between gs (40 ∷ rest) t ↔ Between (none ∷ gs) rest t
 opens gs rest t = chain (between_item gs 40 rest t refl (λ e. omega arith)) (item_list gs rest t)
 
 pub open_step : (gs hs : List PlainTrees) → hs ≡ none ∷ gs → StepsReader gs (modes.Outside places.Open) (40 ∷ []) hs (modes.Outside places.Open)
@@ -287,7 +287,7 @@ closers_end (g ∷ gs) = refl
 abbrev pub CanEnd : List PlainTrees → Mode → Type 0
 CanEnd gs mode = (rest : List ℕ) × (t : PlainTree) × Completes gs mode rest t × (nesting t ≤ 64)
 
-open_can_end : (gs : List PlainTrees) → AreShallow gs → CanEnd gs (modes.Outside places.Open)
+pub open_can_end : (gs : List PlainTrees) → AreShallow gs → CanEnd gs (modes.Outside places.Open)
 open_can_end [] h = (97 ∷ [], atom (97 ∷ []), (atom (97 ∷ []), [], ((λ e. cc), refl, refl, refl), (refl, refl)), omega arith)
 open_can_end (g ∷ gs) (m, h) =
     let e : nesting_all (onto g none) ≡ max (nesting_all g) (nesting_all none) = nesting-onto g none in
@@ -298,31 +298,44 @@ open_can_end (g ∷ gs) (m, h) =
       closed_shallow gs (list (onto g none)) h k,
     )
 
+-- so is one in an atom, in a text, and after a backslash
+abbrev pub Ends : (List ℕ → PlainTree → Type 0) → Type 0
+Ends Takes = (rest : List ℕ) × (t : PlainTree) × Takes rest t × (nesting t ≤ 64)
+
+pub atom_can_end : (gs : List PlainTrees) (a : List ℕ) → AreShallow gs → Ends (InsideAtom gs a)
+atom_can_end gs a h =
+    let n = shallow_few gs h in (
+      closers gs,
+      closed gs (atom a),
+      (atom_end gs a (closers gs) _ (closers_end gs)).1 (after_closers gs (atom a)),
+      closed_shallow gs (atom a) h (omega arith),
+    )
+
+pub text_can_end : (gs : List PlainTrees) (x : List ℕ) → AreShallow gs → Ends (InsideText gs x)
+text_can_end gs x h =
+    let n = shallow_few gs h in (
+      34 ∷ closers gs,
+      closed gs (text x),
+      (text_end gs x (closers gs) _).1 (after_closers gs (text x)),
+      closed_shallow gs (text x) h (omega arith),
+    )
+
+pub escape_can_end : (gs : List PlainTrees) (x : List ℕ) → AreShallow gs → Ends (λ rest t. InsideText gs x (92 ∷ rest) t)
+escape_can_end gs x h =
+    let n = shallow_few gs h in
+    let y = x ++ 10 ∷ [] in (
+      110 ∷ 34 ∷ closers gs,
+      closed gs (text y),
+      (text_escape gs x 110 10 (34 ∷ closers gs) _ refl).1 ((text_end gs y (closers gs) _).1 (after_closers gs (text y))),
+      closed_shallow gs (text y) h (omega arith),
+    )
+
 pub can_end : (gs : List PlainTrees) (mode : Mode) → IsShallow gs mode → CanEnd gs mode
 can_end gs (modes.Outside places.Open) (h, k) = open_can_end gs h
 can_end gs (modes.Outside (places.Complete u)) (h, k) = ([], plain u, (refl, refl), k)
-can_end gs (modes.InAtom a) h =
-    let n = shallow_few gs h in (
-      closers gs,
-      closed gs (atom (string_bytes a)),
-      (atom_end gs (string_bytes a) (closers gs) _ (closers_end gs)).1 (after_closers gs (atom (string_bytes a))),
-      closed_shallow gs (atom (string_bytes a)) h (omega arith),
-    )
-can_end gs (modes.InText a) h =
-    let n = shallow_few gs h in (
-      34 ∷ closers gs,
-      closed gs (text (string_bytes a)),
-      (text_end gs (string_bytes a) (closers gs) _).1 (after_closers gs (text (string_bytes a))),
-      closed_shallow gs (text (string_bytes a)) h (omega arith),
-    )
-can_end gs (modes.InEscape a) h =
-    let n = shallow_few gs h in
-    let x = string_bytes a ++ 10 ∷ [] in (
-      110 ∷ 34 ∷ closers gs,
-      closed gs (text x),
-      (text_escape gs (string_bytes a) 110 10 (34 ∷ closers gs) _ refl).1 ((text_end gs x (closers gs) _).1 (after_closers gs (text x))),
-      closed_shallow gs (text x) h (omega arith),
-    )
+can_end gs (modes.InAtom a) h = atom_can_end gs (string_bytes a) h
+can_end gs (modes.InText a) h = text_can_end gs (string_bytes a) h
+can_end gs (modes.InEscape a) h = escape_can_end gs (string_bytes a) h
 
 -- the bracket that opens a list inside 64 lists
 pub open_deep : (gs : List PlainTrees) → 64 ≤ length gs → IsTooDeep gs (modes.Outside places.Open) (40 ∷ [])

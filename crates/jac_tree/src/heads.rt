@@ -1,7 +1,7 @@
 ghost use Rattle.std.specs.Prelude.{◌≡◌, nat_le};
 ghost use Rattle.std.specs.Option.{option_map};
 ghost use Rattle.jac_tree.specs.Mirror.{plain, plain_all};
-ghost use Rattle.jac_tree.specs.Plain.{count, is_word, tail_of};
+ghost use Rattle.jac_tree.specs.Plain.{count, is_word, nesting, nesting_all, tail_of};
 
 use crate::{Tree, Trees};
 
@@ -42,6 +42,36 @@ pub fn is_up_to(trees: &Trees, most: u64) -> bool
         }
         room -= 1;
         left = rest;
+    }
+    true
+}
+
+/// Whether at most so many lists stand round each place of the tree. It looks no deeper.
+#[cycle(depth)]
+pub fn nests_within(tree: &Tree, levels: u64) -> bool
+    ensures { result ≡ nat_le (nesting (plain tree.now)) levels }
+{
+    match tree {
+        Tree::Atom(_) => true,
+        Tree::Text(_) => true,
+        Tree::List(trees) => if levels == 0 {
+            false
+        } else {
+            nest_within(trees, levels - 1)
+        },
+    }
+}
+
+#[cycle(depth)]
+fn nest_within(trees: &Trees, levels: u64) -> bool
+    ensures { result ≡ nat_le (nesting_all (plain_all trees.now)) levels }
+{
+    let mut left = trees;
+    'trees: while let Trees::More(first, rest) = left {
+        if !nests_within(&**first, levels) {
+            return false;
+        }
+        left = &**rest;
     }
     true
 }

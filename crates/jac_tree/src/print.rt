@@ -13,11 +13,11 @@ use std::alloc::Global;
 /// tab, backslash and quote are `\n`, `\r`, `\t`, `\\` and `\"`, and every other byte stands for
 /// itself.
 pub fn print_tree(alloc: Global, tree: &Tree) -> Result<Bytes, Memory>
+    requires shallow { nesting (plain tree.now) ≤ 64 }
     ensures printed { IfOk result (λ bytes. bytes ≡ printed_tree (plain tree.now)) }
 
     // What was printed is read back as the tree, where it is within the limits of `read_tree`.
-    ensures accepted { IfOk result (λ bytes. HasAtoms (plain tree.now) → nesting (plain tree.now)
-        ≤ 64
+    ensures accepted { IfOk result (λ bytes. HasAtoms (plain tree.now)
         → length bytes ≤ 1048576 → Accepted bytes (plain tree.now)) }
 {
     let mut text = String::new(alloc);

@@ -1,7 +1,7 @@
 ghost use Rattle.std.specs.Prelude.{◌≡◌, ◌≢◌, List, false, OnOk, ◌+◌, ◌^◌, ◌<◌, ◌≤◌, ◌↔◌, ◌⊎◌, ℕ, [], ◌∷◌, ◌++◌, length, IfOk, IsErrOf, MatchResult, IsUtf8, encode_utf8, string_bytes};
 ghost use Rattle.std.specs.Str.{IsValidUpTo};
 ghost use Rattle.jac_tree.specs.declared.fault.TreeFault.{TreeFault as AnyFault};
-ghost use Rattle.jac_tree.specs.Faults.{IsFaultOf};
+ghost use Rattle.jac_tree.specs.Faults.{IsFaultOf, IsShortText};
 ghost use Rattle.jac_tree.specs.Grammar.{Accepted, Spells, IsStrayAt, IsDeepAt, IsUnclosedAt, is_white, escape_meaning};
 ghost use Rattle.jac_value.specs.Names.{is_atom_byte};
 ghost use Rattle.jac_tree.specs.Mirror.{plain};
@@ -80,6 +80,13 @@ pub fn read_tree(alloc: Global, bytes: &[u8]) -> Result<Tree, TreeFault>
 pub fn spells_one_tree()
     ensures { (bytes : List ℕ) (t : PlainTree) (u : PlainTree) → Spells bytes t → Spells bytes u
         → t ≡ u }
+{}
+
+/// A law, with nothing to run: bytes that are a text of at most 1,048,576 bytes are accepted as a
+/// tree, or have a fault. So what `read_tree` answers is determined but for want of memory.
+pub fn each_text_is_read()
+    ensures { (bytes : List ℕ) → IsShortText bytes → ((t : PlainTree) × Accepted bytes t)
+        ⊎ ((fault : AnyFault) × IsFaultOf bytes fault) }
 {}
 
 /// The tree that the text spells, however long it is.
