@@ -6,7 +6,7 @@ use Rattle.jac_facet.specs.Shape.{Shape, one, fork, Above, IsOrdered, has_label}
 no_one : (a b c : Bool) → a ≡ false → b ≡ false → c ≡ false → (a || b || c) ≡ false
 no_one a b c p q r = rw (p, q) r
 
-above_lower : {T : Type 0} (j k : ℕ) (s : Shape T) → j < k → Above k s → Above j s
+pub above_lower : {T : Type 0} (j k : ℕ) (s : Shape T) → j < k → Above k s → Above j s
 above_lower j k (one x) lt a = tt
 above_lower j k (fork i h l) lt a = omega arith
 

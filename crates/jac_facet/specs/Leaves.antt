@@ -1,14 +1,33 @@
-use Rattle.std.specs.Prelude.{◌≡◌, ℕ, ◌&&◌, Option, Some, None, Bool, true, false, not, ◌||◌, if◌then◌else◌, List, [], ◌∷◌}
+use Rattle.std.specs.Prelude.{◌≡◌, ℕ, ◌==◌, nat_lt, ◌&&◌, Option, Some, None, Bool, true, false, not, ◌||◌, if◌then◌else◌, List, [], ◌∷◌, ◌++◌}
 use Rattle.std.specs.List.{list_any}
 use mathlib.Core.Bool.{beq}
-use Rattle.jac_world.specs.World.{holds}
+use Rattle.jac_world.specs.World.{holds, contradict}
+use Rattle.jac_facet.specs.Shape.{Shape, one, fork}
 
 -- the guard that holds where g does and the label has the sign, or none where that can't be
 abbrev pub IsWhere : List (ℕ × Bool) → ℕ → Bool → Option (List (ℕ × Bool)) → Type 0
 IsWhere g k b None = (w : ℕ → Bool) → (holds w g && beq b (w k)) ≡ false
 IsWhere g k b (Some m) = (w : ℕ → Bool) → holds w m ≡ (holds w g && beq b (w k))
 
+-- the pairs of a guard and one more, by rising label, each once
+abbrev pub with_pair : ℕ → Bool → List (ℕ × Bool) → List (ℕ × Bool)
+with_pair k b [] = (k, b) ∷ []
+with_pair k b (p ∷ g) = if nat_lt p.0 k then p ∷ with_pair k b g else (if p.0 == k then p ∷ g
+    else (k, b) ∷ (p ∷ g))
+
+-- that guard, or none where it has the label with the other sign
+abbrev pub guard_where : List (ℕ × Bool) → ℕ → Bool → Option (List (ℕ × Bool))
+guard_where g k b = if contradict g ((k, b) ∷ []) then None else Some (with_pair k b g)
+
 module _ {T : Type 0} where
+  -- the leaves that can be met where the guard holds, high sides first, each with the guard and the
+  -- signs of the labels above it
+  abbrev pub leaves_of : List (ℕ × Bool) → Shape T → List (List (ℕ × Bool) × T)
+  leaves_of g (one x) = (g, x) ∷ []
+  leaves_of g (fork k h l) = (if contradict g ((k, true) ∷ []) then []
+      else leaves_of (with_pair k true g) h)
+      ++ (if contradict g ((k, false) ∷ []) then [] else leaves_of (with_pair k false g) l)
+
   -- the values whose guards hold, in order
   abbrev pub leaves_seen : (ℕ → Bool) → List (List (ℕ × Bool) × T) → List T
   leaves_seen w [] = []

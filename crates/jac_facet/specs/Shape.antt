@@ -23,6 +23,11 @@ module _ {T : Type 0} where
   Above k (one x) = ⊤
   Above k (fork j h l) = k < j
 
+  -- how many splits there are
+  abbrev pub splits_in : Shape T → ℕ
+  splits_in (one x) = 0
+  splits_in (fork k h l) = splits_in h + splits_in l + 1
+
   abbrev pub top : Shape T → Option ℕ
   top (one x) = None
   top (fork k h l) = Some k

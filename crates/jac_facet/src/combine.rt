@@ -1,7 +1,7 @@
-ghost use Rattle.std.specs.Prelude.{◌≡◌, ℕ, Bool, Ok, IfOk};
+ghost use Rattle.std.specs.Prelude.{◌≡◌, ◌+◌, ◌≤◌, ℕ, Bool, Ok, IfOk};
 ghost use Rattle.std.specs.Fn.{FnReturnsAt};
 ghost use Rattle.jac_facet.specs.Answers.{Answers};
-ghost use Rattle.jac_facet.specs.Shape.{at, top, Above};
+ghost use Rattle.jac_facet.specs.Shape.{at, top, splits_in, Above};
 ghost use Rattle.jac_facet.specs.Tops.{IsLeast};
 
 use crate::{Facet, Leaf};
@@ -11,7 +11,8 @@ use std::alloc::Global;
 use std::sync::ledger::Ledger;
 
 impl<T: Leaf> Facet<T> {
-    /// Under each assignment what the function answers at the value there.
+    /// Under each assignment what the function answers at the value there. Each split of the result
+    /// was counted.
     pub fn map<U: Leaf, F: Fn(&T) -> Result<U, Memory>, L: Ledger>(
         &self,
         alloc: Global,
@@ -19,14 +20,16 @@ impl<T: Leaf> Facet<T> {
         splits: &mut Steps<L>,
     ) -> Result<Facet<U>, Memory>
         requires { F.IsAlwaysCallable f }
-        ensures { IfOk result (λ r. (w : ℕ → Bool) → FnReturnsAt F.Fn f (at w self.now)
+        ensures at { IfOk result (λ r. (w : ℕ → Bool) → FnReturnsAt F.Fn f (at w self.now)
             (Ok (at w r))) }
+        ensures counted { IfOk result (λ r. splits.old + splits_in r ≤ splits.new) }
     {
         let mapped = self.map_by(alloc, &f, splits)?;
         Ok(mapped)
     }
 
-    /// Under each assignment what the function answers at the two values there.
+    /// Under each assignment what the function answers at the two values there. Each split of the
+    /// result was counted.
     pub fn combine<U: Leaf, V: Leaf, F: Fn(&T, &U) -> Result<V, Memory>, L: Ledger>(
         &self,
         alloc: Global,
@@ -35,8 +38,9 @@ impl<T: Leaf> Facet<T> {
         splits: &mut Steps<L>,
     ) -> Result<Facet<V>, Memory>
         requires { F.IsAlwaysCallable f }
-        ensures { IfOk result (λ r. (w : ℕ → Bool) → Answers F.Fn f (at w self.now) (at w other.now)
-            (Ok (at w r))) }
+        ensures at { IfOk result (λ r. (w : ℕ → Bool) → Answers F.Fn f (at w self.now)
+            (at w other.now) (Ok (at w r))) }
+        ensures counted { IfOk result (λ r. splits.old + splits_in r ≤ splits.new) }
     {
         let combined = self.combine_by(alloc, other, &f, splits)?;
         Ok(combined)
@@ -52,6 +56,7 @@ impl<T: Leaf> Facet<T> {
         ensures at { IfOk result (λ r. (w : ℕ → Bool) → FnReturnsAt F.Fn f.now (at w self.now)
             (Ok (at w r))) }
         ensures above { IfOk result (λ r. (k : ℕ) → Above k self.now → Above k r) }
+        ensures counted { IfOk result (λ r. splits.old + splits_in r ≤ splits.new) }
     {
         match self.top() {
             None => {
@@ -79,6 +84,7 @@ impl<T: Leaf> Facet<T> {
             (at w other.now) (Ok (at w r))) }
         ensures above { IfOk result (λ r. (k : ℕ) → Above k self.now → Above k other.now
             → Above k r) }
+        ensures counted { IfOk result (λ r. splits.old + splits_in r ≤ splits.new) }
     {
         match first_label(self, other) {
             None => {

@@ -1,6 +1,6 @@
 ghost use Rattle.std.specs.Prelude.{◌≡◌, ◌≢◌, ℕ, ◌+◌, ◌<◌, ◌≤◌, Bool, false, if◌then◌else◌, Some, None, IfOk, IfSome, IsTrue, ◌↔◌};
 ghost use Rattle.jac_world.specs.World.{shown_by};
-ghost use Rattle.jac_facet.specs.Shape.{Shape, one, at, top, depth, Above, IsOrdered, has_label};
+ghost use Rattle.jac_facet.specs.Shape.{Shape, one, at, top, depth, splits_in, Above, IsOrdered, has_label};
 ghost use Rattle.jac_facet.specs.Tops.{UpTo};
 
 use crate::Leaf;
@@ -78,6 +78,7 @@ impl<T: Leaf> Facet<T> {
         ensures above { IfOk result (λ f. (k : ℕ) → k < label → Above k f) }
         ensures labels { IfOk result (λ f. (k : ℕ) → k ≢ label → has_label k high ≡ false
             → has_label k low ≡ false → has_label k f ≡ false) }
+        ensures most { IfOk result (λ f. splits_in f ≤ splits_in high + splits_in low + 1) }
         ensures ticks { splits.new ≡ splits.old + 1 }
     {
         splits.tick();
@@ -125,6 +126,35 @@ impl<T: Leaf> Facet<T> {
             Node::Split(label, high, low) => {
                 let high = Box::new(alloc, high.copy(alloc)?)?;
                 let low = Box::new(alloc, low.copy(alloc)?)?;
+                Ok(Facet {
+                    node: Node::Split(*label, high, low),
+                    labels: self.labels,
+                })
+            }
+        }
+    }
+
+    // The same facet, each of its splits counted.
+    pub(crate) fn counted_copy<L: Ledger>(
+        &self,
+        alloc: Global,
+        copied: &mut Steps<L>,
+    ) -> Result<Facet<T>, Memory>
+        ensures same { IfOk result (λ f. f ≡ self.now) }
+        ensures counted { IfOk result (λ f. copied.old + splits_in f ≤ copied.new) }
+    {
+        match &self.node {
+            Node::Leaf(value) => {
+                let value = value.copy(alloc)?;
+                Ok(Facet {
+                    node: Node::Leaf(value),
+                    labels: 0,
+                })
+            }
+            Node::Split(label, high, low) => {
+                copied.tick();
+                let high = Box::new(alloc, high.counted_copy(alloc, copied)?)?;
+                let low = Box::new(alloc, low.counted_copy(alloc, copied)?)?;
                 Ok(Facet {
                     node: Node::Split(*label, high, low),
                     labels: self.labels,

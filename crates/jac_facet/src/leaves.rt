@@ -1,8 +1,8 @@
 ghost use Rattle.std.specs.Prelude.{◌≡◌, ℕ, Bool, true, ◌&&◌, ◌||◌, ◌++◌, [], ◌∷◌, if◌then◌else◌, IfOk, OnOk};
 ghost use mathlib.Core.Bool.{beq};
-ghost use Rattle.jac_world.specs.World.{holds};
+ghost use Rattle.jac_world.specs.World.{holds, contradict};
 ghost use Rattle.jac_facet.specs.Shape.{at, higher};
-ghost use Rattle.jac_facet.specs.Leaves.{leaves_seen, meets, is_shown_before, order_after, IsWhere};
+ghost use Rattle.jac_facet.specs.Leaves.{leaves_seen, leaves_of, with_pair, guard_where, meets, is_shown_before, order_after, IsWhere};
 
 use crate::facet::Node;
 use crate::{Facet, Leaf, Leaves};
@@ -14,6 +14,7 @@ impl<T: Leaf> Facet<T> {
     /// The values that the facet can have where the guard holds, each with the guard under which it
     /// has it: under each assignment at most one. High sides come first.
     pub fn leaves_under(&self, alloc: Global, guard: &Guard) -> Result<Leaves<T>, Memory>
+        ensures exact { IfOk result (λ ps. ps ≡ leaves_of guard.now self.now) }
         ensures seen { IfOk result (λ ps. (w : ℕ → Bool) → leaves_seen w ps ≡ (if holds w guard.now
             then at w self.now ∷ [] else [])) }
         ensures order { IfOk result (λ ps. (v w : ℕ → Bool) → holds v guard.now ≡ true
@@ -31,6 +32,8 @@ impl<T: Leaf> Facet<T> {
         guard: &Guard,
         out: &mut Vec<(Guard, T)>,
     ) -> Result<(), Memory>
+        ensures exact { OnOk result (out.new.items ≡ out.old.items
+            ++ leaves_of guard.now self.now) }
         ensures seen { OnOk result ((w : ℕ → Bool) → leaves_seen w out.new.items
             ≡ leaves_seen w out.old.items
             ++ (if holds w guard.now then at w self.now ∷ [] else [])) }
@@ -64,6 +67,9 @@ impl<T: Leaf> Facet<T> {
         sign: bool,
         out: &mut Vec<(Guard, T)>,
     ) -> Result<(), Memory>
+        ensures exact { OnOk result (out.new.items ≡ out.old.items
+            ++ (if contradict guard.now ((label, sign) ∷ []) then []
+            else leaves_of (with_pair label sign guard.now) self.now)) }
         ensures seen { OnOk result ((w : ℕ → Bool) → leaves_seen w out.new.items
             ≡ leaves_seen w out.old.items
             ++ (if holds w guard.now && beq sign (w label) then at w self.now ∷ [] else [])) }
@@ -93,11 +99,18 @@ fn guard_where(
     label: Label,
     sign: bool,
 ) -> Result<Option<Guard>, Memory>
-    ensures { IfOk result (IsWhere guard.now label sign) }
+    ensures exact { IfOk result (λ r. r ≡ guard_where guard.now label sign) }
+    ensures holds { IfOk result (IsWhere guard.now label sign) }
 {
     let one = Guard::one(alloc, label, sign)?;
-    let both = guard.meet(alloc, &one)?;
-    Ok(both)
+    let _ = guard.pairs();
+    match guard.meet(alloc, &one)? {
+        Some(both) => {
+            let _ = both.pairs();
+            Ok(Some(both))
+        }
+        None => Ok(None),
+    }
 }
 
 fn push_leaf<T: Leaf>(

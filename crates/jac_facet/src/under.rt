@@ -1,7 +1,7 @@
 ghost use Rattle.std.specs.Prelude.{◌≡◌, ◌≢◌, ℕ, ◌+◌, ◌<◌, ◌≤◌, Bool, true, false, if◌then◌else◌, Some, None, IfOk};
 ghost use mathlib.Core.Bool.{beq};
 ghost use Rattle.jac_world.specs.World.{holds, has_pair, IsRising, StartsAbove};
-ghost use Rattle.jac_facet.specs.Shape.{at, top, Above, has_label};
+ghost use Rattle.jac_facet.specs.Shape.{at, top, splits_in, Above, has_label};
 ghost use Rattle.jac_facet.specs.Tops.{IsSmallerLabel};
 
 use crate::combine::first_label;
@@ -22,8 +22,9 @@ impl<T: Leaf> Facet<T> {
         old: &Facet<T>,
         splits: &mut Steps<L>,
     ) -> Result<Facet<T>, Memory>
-        ensures { IfOk result (λ r. (w : ℕ → Bool) → at w r ≡ (if holds w guard.now
+        ensures at { IfOk result (λ r. (w : ℕ → Bool) → at w r ≡ (if holds w guard.now
             then at w new.now else at w old.now)) }
+        ensures counted { IfOk result (λ r. splits.old + splits_in r ≤ splits.new) }
     {
         let pairs = guard.pairs();
         if pairs.len() > MOST_LABELS as usize {
@@ -44,6 +45,7 @@ impl<T: Leaf> Facet<T> {
             → at w r ≡ at w self.now) }
         ensures pruned { IfOk result (λ r. (k : ℕ) (b : Bool) → has_pair cut.now k b ≡ true
             → has_label k r ≡ false) }
+        ensures counted { IfOk result (λ r. splits.old + splits_in r ≤ splits.new) }
     {
         let facet = self.prune_pairs(alloc, cut.pairs(), splits)?;
         Ok(facet)
@@ -61,10 +63,11 @@ impl<T: Leaf> Facet<T> {
             then at w new.now else at w old.now)) }
         ensures above { IfOk result (λ r. (k : ℕ) → StartsAbove k pairs.now → Above k new.now
             → Above k old.now → Above k r) }
+        ensures counted { IfOk result (λ r. splits.old + splits_in r ≤ splits.new) }
     {
         match pairs.split_first() {
             None => {
-                let facet = new.copy(alloc)?;
+                let facet = new.counted_copy(alloc, splits)?;
                 Ok(facet)
             }
             Some((pair, rest)) => match label_before(new, old, pair.0) {
@@ -94,7 +97,7 @@ impl<T: Leaf> Facet<T> {
                         old.side(pair.0, pair.1),
                         splits,
                     )?;
-                    let outer = old.side(pair.0, !pair.1).copy(alloc)?;
+                    let outer = old.side(pair.0, !pair.1).counted_copy(alloc, splits)?;
                     let facet = Facet::split_by_sign(alloc, pair.0, pair.1, inner, outer, splits)?;
                     Ok(facet)
                 }
@@ -116,6 +119,8 @@ impl<T: Leaf> Facet<T> {
         ensures at { IfOk result (λ f. (w : ℕ → Bool) → at w f ≡ (if beq sign (w label)
             then at w met else at w unmet)) }
         ensures above { IfOk result (λ f. (k : ℕ) → k < label → Above k f) }
+        ensures most { IfOk result (λ f. splits_in f ≤ splits_in met + splits_in unmet + 1) }
+        ensures ticks { splits.new ≡ splits.old + 1 }
     {
         if sign {
             let facet = Facet::split(alloc, label, met, unmet, splits)?;
@@ -140,10 +145,11 @@ impl<T: Leaf> Facet<T> {
         ensures above { IfOk result (λ r. (k : ℕ) → Above k self.now → Above k r) }
         ensures labels { IfOk result (λ r. (k : ℕ) → has_label k self.now ≡ false
             → has_label k r ≡ false) }
+        ensures counted { IfOk result (λ r. splits.old + splits_in r ≤ splits.new) }
     {
         match pairs.split_first() {
             None => {
-                let facet = self.copy(alloc)?;
+                let facet = self.counted_copy(alloc, splits)?;
                 Ok(facet)
             }
             Some((pair, rest)) => match label_before(self, self, pair.0) {

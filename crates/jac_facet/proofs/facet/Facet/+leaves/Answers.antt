@@ -35,5 +35,5 @@ add_leaves-returns-in_ok-add_leaves_where-in-Split-2-clause-order g t c v w =
 pub add_leaves_where-returns-in-None-clause-order :
     goal.add_leaves_where-returns-in-None-clause-order
 add_leaves_where-returns-in-None-clause-order g t c v w =
-    let e : (holds v c.args.guard.now && beq c.args.sign (v c.args.label)) ≡ false = (rw c.in-None.is at c.in_ok-both.ensures) v in
+    let e : (holds v c.args.guard.now && beq c.args.sign (v c.args.label)) ≡ false = (rw c.in-None.is at c.in_ok-both.ensures.holds) v in
     no_order (meets v c.args.out.now.items) (meets w c.args.out.now.items) (holds v c.args.guard.now && beq c.args.sign (v c.args.label)) (holds w c.args.guard.now && beq c.args.sign (w c.args.label)) (is_shown_before v w c.args.out.now.items) (higher v w c.args.self.now) e (before_none v w c.args.out.now.items)

@@ -37,7 +37,7 @@ returns-in_ok-facet-in-None-label_before-clause-at g t c w =
     (under_step c.in-Some.pair.now.1 (w c.in-Some.pair.now.0) (holds w c.in-Some.rest.now) _ _ _ _ _ _ _ _
     (c.in_ok-facet-in-None-label_before.ensures.at w)
     (c.in_ok-inner-in-None-label_before.ensures.at w)
-    (ap (at w) c.in_ok-outer-in-None-label_before.ensures)
+    (ap (at w) c.in_ok-outer-in-None-label_before.ensures.same)
     (c.side-in-None-label_before.ensures.at w)
     (c.side-in-None-label_before-2.ensures.at w)
     (c.side-in-None-label_before-3.ensures.at w))
