@@ -11,7 +11,7 @@ use Rattle.jac_value.specs.declared.value.Value.{Value}
 use Rattle.jac_world.specs.World.{holds}
 use Rattle.jac_facet.specs.Leaves.{leaves_seen}
 use Rattle.jac_query.specs.Live.{live, all_ids}
-use Rattle.jac_query.specs.Sorted.{sorted_by, value_less, key_less, keyed_at, keyed_ids, tuples_of, key_leaves}
+use Rattle.jac_query.specs.Sorted.{sorted_by, value_less, key_less, keyed_less, keyed_at, keyed_ids, tuples_of, key_leaves}
 use Rattle.jac_query.specs.declared.sorts.Keyed.{Keyed}
 use Rattle.jac_query.proofs.Sorting.{NoneLess, IsUp, up-from_sorted, stable-is}
 
@@ -64,10 +64,6 @@ pub keys_seen : (w : ℕ → Bool) (ids : List ℕ) (ps : List (List (ℕ × Boo
     key_leaves w ids ps ≡ if◌then◌else◌ {A = List (List ℕ × Value)} b ((ids, v) ∷ []) []
 keys_seen w ids ps b v e = with_ids-seen w ids ps ∙ (ap (with_ids ids) e ∙ with_ids-one ids b v)
 
--- the order of keyed tuples is that of their keys
-abbrev pub keyed_less : Bool → Keyed → Keyed → Bool
-keyed_less down a b = value_less down a.key b.key
-
 pub keyed-order : (down : Bool) → IsStrictWeakOrder (keyed_less down)
 keyed-order false = ranks_by total-law (λ (k : Keyed). k.key)
 keyed-order true = IsStrictWeakOrder-flip (keyed_less false) (ranks_by total-law (λ (k : Keyed). k.key))
@@ -116,6 +112,10 @@ module _ (down : Bool) (w : ℕ → Bool) where
   sorted-live xs ys up stable =
       stable-is (key_less down) (pair-order down) (keyed_at w xs) (keyed_at w ys) (up-kept ys (up-from_sorted (keyed_less down) (keyed-order down) ys up))
       (λ p. filter-kept p ys ∙ (ap (keyed_at w) (stable (as_keyed p)) ∙ sym (filter-kept p xs)))
+
+-- what no later element is less in, with its ties as they stood, is the stable sort
+pub sorted-all : (down : Bool) (xs ys : List Keyed) → IsSortedBy (keyed_less down) ys → IsStableBy (keyed_less down) xs ys → ys ≡ sorted_by (keyed_less down) xs
+sorted-all down xs ys up stable = stable-is (keyed_less down) (keyed-order down) xs ys (up-from_sorted (keyed_less down) (keyed-order down) ys up) stable
 
 abbrev firsts : List (List ℕ × Value) → List (List ℕ)
 firsts ps = map (λ p. p.0) ps

@@ -1,9 +1,11 @@
 -- The stable sort of tuples by a key.
-use Rattle.std.specs.Prelude.{ℕ, Bool, true, false, ◌&&◌, if◌then◌else◌, List, [], ◌∷◌, map}
+use Rattle.std.specs.Prelude.{ℕ, Bool, true, false, ◌&&◌, if◌then◌else◌, List, [], ◌∷◌, ◌++◌, map}
 use Rattle.std.specs.Ordering.{is_lt}
 use Rattle.jac_value.specs.contracts.value.ValueOrd.TheImpl.{ghosts}
 use Rattle.jac_value.specs.declared.value.Value.{Value}
 use Rattle.jac_world.specs.World.{holds}
+use Rattle.jac_facet.specs.Shape.{Shape}
+use Rattle.jac_facet.specs.Leaves.{leaves_of}
 use Rattle.jac_query.specs.declared.tuple.Tuple.{Tuple}
 use Rattle.jac_query.specs.declared.sorts.Keyed.{Keyed}
 
@@ -51,3 +53,25 @@ abbrev pub key_leaves : (ℕ → Bool) → List ℕ → List (List (ℕ × Bool)
 key_leaves w ids [] = []
 key_leaves w ids (p ∷ ps) = if holds w p.0 then (ids, p.1) ∷ key_leaves w ids ps
     else key_leaves w ids ps
+
+abbrev pub keyed_of : List (ℕ × Bool) → List ℕ → Value → Keyed
+keyed_of g ids v = record { guard = g; ids = ids; key = v }
+
+-- these ids once for each leaf of a key, with the leaf's guard and value
+abbrev pub keys_where : List ℕ → List (List (ℕ × Bool) × Value) → List Keyed
+keys_where ids [] = []
+keys_where ids (p ∷ ps) = keyed_of p.0 ids p.1 ∷ keys_where ids ps
+
+-- each tuple once for each leaf of its key that its guard can meet
+abbrev pub keyed_tuples : List Tuple → List (Shape Value) → List Keyed
+keyed_tuples [] ks = []
+keyed_tuples (t ∷ ts) [] = []
+keyed_tuples (t ∷ ts) (k ∷ ks) = keys_where t.ids (leaves_of t.guard k) ++ keyed_tuples ts ks
+
+-- the order of keyed tuples is that of their keys
+abbrev pub keyed_less : Bool → Keyed → Keyed → Bool
+keyed_less down a b = value_less down a.key b.key
+
+-- those in the order of the leaves' values; ties keep their order
+abbrev pub ordered_leaves : Bool → List Tuple → List (Shape Value) → List Tuple
+ordered_leaves down ts ks = tuples_of (sorted_by (keyed_less down) (keyed_tuples ts ks))
