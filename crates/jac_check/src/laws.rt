@@ -9,8 +9,9 @@ pub fn well_without_fault()
     ensures { (app : Application) → is_well app ≡ is_none (first_fault app) }
 {}
 
-/// A law: the views of a well application may be run. None that answers GET writes, no record is
-/// created inside of a `for`, and no template is left.
+/// A law: the views of a well application may be run. None that answers GET writes, no template is
+/// left, and inside of a `for` a record is created only where its model is nested and `may_create`
+/// allows it.
 pub fn well_is_runnable()
     ensures { (app : Application) → IsTrue (is_well app) → HasRunnableViews app }
 {}

@@ -21,7 +21,8 @@ use Rattle.jac_plain.specs.Expressions.{is_true, bound, binding, bytes_of, answe
 use Rattle.jac_plain.specs.Making.{with_env, MayChoose, MayEach}
 use Rattle.jac_plain.specs.Models.{is_sited, are_sited}
 use Rattle.jac_plain.specs.Requests.{Visit, setting_of}
-use Rattle.jac_plain.specs.Statements.{Setting, Run, world_of, value_in, with_piece, html, scoped_run, choose, for_each, loop_of, id_made, is_kept, with_made, plain_row, created_cells, create_run, update_run, delete_run, leaves, leaves_all}
+use Rattle.jac_value.specs.Html.{html}
+use Rattle.jac_plain.specs.Statements.{Setting, Run, world_of, value_in, with_piece, scoped_run, choose, for_each, loop_of, id_made, is_kept, with_made, plain_row, created_cells, create_run, update_run, delete_run, leaves, leaves_all}
 use Rattle.jac_check.specs.Scope.{Named, Standing, is_get, page_standing, scope_name, named_binders, scope_at, bind, loop_within, within, reference_to, fields_of, fields_placed, field_kind}
 use Rattle.jac_check.specs.Kinds.{has, is_model, is_query, kind_of}
 use Rattle.jac_check.specs.Well.{kind_here, are_named, are_kinds, are_cells, is_statement, is_body, are_fields, are_pages, are_models, is_well}

@@ -14,7 +14,7 @@ use Rattle.jac_lang.specs.declared.queries.Order.TheVariants as orders
 use Rattle.jac_lang.specs.Syntax.{Entity}
 use Rattle.jac_lang.specs.Lookup.{same_text}
 use Rattle.jac_plain.specs.World.{World}
-use Rattle.jac_plain.specs.Expressions.{binding, bound, look_from, look, model_of_binder}
+use Rattle.jac_plain.specs.Expressions.{binding, bound, look_from, look, model_from, model_of_binder}
 use Rattle.jac_check.specs.Scope.{reference_to, is_one_of}
 use Rattle.jac_check.specs.Kinds.{is_model, is_place, are_binders, is_sort_key, is_order}
 use Rattle.jac_kind_laws.specs.Fits.{Has}
@@ -59,32 +59,39 @@ others ms y front seen (b ∷ bs) h =
     let p = and_parts (not (is_one_of b.name (front ++ y ∷ seen))) _ h in
     (turned y b.name (unseen b.name y front seen p.0), others ms y (b.name ∷ front) seen bs (and_parts (is_model ms b.model) _ p.1).1)
 
--- the binder of the name is this one, or one after it
-key_step : (ms : List Entity) (b : Binder) (bs : List Binder) (x : List ℕ) (at_first later : Bool) (id : ℕ) (ids : List ℕ) (env : List Binding) (same : Bool) → same_text b.name x ≡ same
-    → AreOthers bs b.name → Has (reference_to ms b.model) (value.Ref (Some id))
-    → (later ≡ true → Has (reference_to ms (model_of_binder bs x)) (look (bound bs ids (env ++ binding b.name (value.Ref (Some id)) ∷ [])) x))
-    → (if same then at_first else later) ≡ true
-    → Has (reference_to ms (if same then b.model else model_of_binder bs x)) (look (bound bs ids (env ++ binding b.name (value.Ref (Some id)) ∷ [])) x)
-key_step ms b bs x at_first later id ids env true e apart here there h =
-    let more = binding b.name (value.Ref (Some id)) in
-    let found : look (bound bs ids (env ++ more ∷ [])) x ≡ value.Ref (Some id) =
-    look_past bs ids (env ++ more ∷ []) x (subst (λ (y : List ℕ). AreOthers bs y) ((same_name b.name x).0 e) apart) ∙ (look_more (value.Int (pos 0)) env more x ∙ rw e refl) in
-    subst (λ (v : Value). Has (reference_to ms b.model) v) (sym found) here
-key_step ms b bs x at_first later id ids env false e apart here there h = there h
+-- no binder of the name follows
+model_past : (bs : List Binder) (x m : List ℕ) → AreOthers bs x → model_from m bs x ≡ m
+model_past [] x m g = refl
+model_past (b ∷ bs) x m g = rw g.0 (model_past bs x m g.1)
 
-key_fits : (ms : List Entity) (bs : List Binder) (x f : List ℕ) (seen : List (List ℕ)) (ids : List ℕ) (env : List Binding) → are_binders ms seen bs ≡ true → is_sort_key ms bs x f ≡ true
-    → Refer ms bs ids → Has (reference_to ms (model_of_binder bs x)) (look (bound bs ids env) x)
-key_fits ms [] x f seen ids env h key g = cc
-key_fits ms (b ∷ bs) x f seen [] env h key g = absurd g
-key_fits ms (b ∷ bs) x f seen (id ∷ ids) env h key g =
+-- the binder of the name is this one, or one after it
+key_step : (ms : List Entity) (b : Binder) (bs : List Binder) (x m : List ℕ) (at_first later : Bool) (id : ℕ) (ids : List ℕ) (env : List Binding) (same : Bool) → same_text b.name x ≡ same
+    → AreOthers bs b.name → Has (reference_to ms b.model) (value.Ref (Some id))
+    → (later ≡ true → Has (reference_to ms (model_from m bs x)) (look (bound bs ids (env ++ binding b.name (value.Ref (Some id)) ∷ [])) x))
+    → (if same then at_first else later) ≡ true
+    → Has (reference_to ms (model_from (if same then b.model else m) bs x)) (look (bound bs ids (env ++ binding b.name (value.Ref (Some id)) ∷ [])) x)
+key_step ms b bs x m at_first later id ids env true e apart here there h =
+    let more = binding b.name (value.Ref (Some id)) in
+    let alone : AreOthers bs x = subst (λ (y : List ℕ). AreOthers bs y) ((same_name b.name x).0 e) apart in
+    let found : look (bound bs ids (env ++ more ∷ [])) x ≡ value.Ref (Some id) =
+    look_past bs ids (env ++ more ∷ []) x alone ∙ (look_more (value.Int (pos 0)) env more x ∙ rw e refl) in
+    subst (λ (n : List ℕ). Has (reference_to ms n) (look (bound bs ids (env ++ more ∷ [])) x)) (sym (model_past bs x b.model alone))
+    (subst (λ (v : Value). Has (reference_to ms b.model) v) (sym found) here)
+key_step ms b bs x m at_first later id ids env false e apart here there h = there h
+
+key_fits : (ms : List Entity) (bs : List Binder) (x f m : List ℕ) (seen : List (List ℕ)) (ids : List ℕ) (env : List Binding) → are_binders ms seen bs ≡ true → is_sort_key ms bs x f ≡ true
+    → Refer ms bs ids → Has (reference_to ms (model_from m bs x)) (look (bound bs ids env) x)
+key_fits ms [] x f m seen ids env h key g = cc
+key_fits ms (b ∷ bs) x f m seen [] env h key g = absurd g
+key_fits ms (b ∷ bs) x f m seen (id ∷ ids) env h key g =
     let known = (and_parts (is_model ms b.model) _ (and_parts (not (is_one_of b.name seen)) _ h).1).1 in
-    key_step ms b bs x (is_place ms b.model f) (is_sort_key ms bs x f) id ids env (same_text b.name x) refl (others ms b.name [] seen bs known) g.0
-    (λ later. key_fits ms bs x f (b.name ∷ seen) ids (env ++ binding b.name (value.Ref (Some id)) ∷ []) known later g.1) key
+    key_step ms b bs x m (is_place ms b.model f) (is_sort_key ms bs x f) id ids env (same_text b.name x) refl (others ms b.name [] seen bs known) g.0
+    (λ later. key_fits ms bs x f m (b.name ∷ seen) ids (env ++ binding b.name (value.Ref (Some id)) ∷ []) known later g.1) key
 
 tuple_fits : (w : World) (bs : List Binder) (o : Order) (ids : List ℕ) → are_binders w.models [] bs ≡ true → is_order w.models bs o ≡ true → Refer w.models bs ids → SortFits w bs o ids
 tuple_fits w bs orders.Key ids h key g = tt
-tuple_fits w bs (orders.Up x f) ids h key g = key_fits w.models bs x f [] ids [] h key g
-tuple_fits w bs (orders.Down x f) ids h key g = key_fits w.models bs x f [] ids [] h key g
+tuple_fits w bs (orders.Up x f) ids h key g = key_fits w.models bs x f [] [] ids [] h key g
+tuple_fits w bs (orders.Down x f) ids h key g = key_fits w.models bs x f [] [] ids [] h key g
 
 pub sort_fits : (w : World) (bs : List Binder) (o : Order) (tuples : List (List ℕ)) → are_binders w.models [] bs ≡ true → is_order w.models bs o ≡ true → AllByRecursion (Refer w.models bs) tuples
     → AllByRecursion (SortFits w bs o) tuples

@@ -4,7 +4,7 @@ use Rattle.jac_value.specs.Values.{value_text}
 use Rattle.jac_plain.specs.declared.page.Piece.{Piece}
 use Rattle.jac_plain.specs.declared.page.Piece.TheVariants as piece
 use Rattle.jac_plain.specs.Expressions.{bytes_of}
-use Rattle.jac_plain.specs.Statements.{html}
+use Rattle.jac_value.specs.Html.{html}
 use Rattle.jac_plain.specs.declared.pieces.Form.{Form}
 use Rattle.jac_plain.specs.declared.pieces.Form.TheVariants as form
 

@@ -40,6 +40,11 @@ abbrev pub found_page : Option (List ℕ) → List ℕ → Page
 found_page None body = record { status = 200; location = None; body = body }
 found_page (Some to) body = record { status = 303; location = Some to; body = body }
 
+-- the page that leads here, where it isn't missing
+abbrev pub page_by : Bool → Option (List ℕ) → List ℕ → Page
+page_by missing to body = if missing then record { status = 404; location = None; body = body }
+    else found_page to body
+
 -- a page that ran `missing` has no location
 abbrev pub page_of : List Piece → Page
 page_of pieces =

@@ -1,10 +1,10 @@
 -- What a statement leaves in one world.
-use Rattle.std.specs.Prelude.{ℕ, ◌==◌, not, Bool, true, false, if◌then◌else◌, List, [], ◌∷◌, ◌++◌, length, take, Option, Some, None, codes}
-use Rattle.std.specs.List.{flat_map}
+use Rattle.std.specs.Prelude.{ℕ, not, Bool, true, false, if◌then◌else◌, List, [], ◌∷◌, ◌++◌, length, take, Option, Some, None}
 use Rattle.jac_value.specs.declared.value.Value.{Value}
 use Rattle.jac_value.specs.declared.value.Value.TheVariants as value
 use Rattle.jac_value.specs.Ids.{record_id, is_narrow, loop_id}
 use Rattle.jac_value.specs.Values.{value_text}
+use Rattle.jac_value.specs.Html.{html}
 use Rattle.jac_lang.specs.declared.bindings.Binding.{Binding}
 use Rattle.jac_lang.specs.declared.queries.Binder.{Binder}
 use Rattle.jac_lang.specs.Lookup.{same_text, model_place, fields_at, groups_at, hiding_place, is_nested_at}
@@ -40,19 +40,6 @@ value_in k e r = mean (world_of k r) e r.env
 abbrev pub with_piece : Piece → Run → Run
 with_piece p r = record r { pieces = r.pieces ++ p ∷ [] }
 
--- a byte as HTML shows it
-abbrev pub html_byte : ℕ → List ℕ
-html_byte b =
-    if b == 38 then codes "&amp;" else
-    if b == 60 then codes "&lt;" else
-    if b == 62 then codes "&gt;" else
-    if b == 34 then codes "&quot;" else
-    if b == 39 then codes "&#39;" else
-    b ∷ []
-
-abbrev pub html : List ℕ → List ℕ
-html bytes = flat_map html_byte bytes
-
 -- the first bindings of a run
 abbrev pub cut_to : ℕ → Run → Run
 cut_to n r = record r { env = take n r.env }
@@ -64,11 +51,13 @@ scoped_run env body r = cut_to (length r.env) (body (record r { env = env }))
 abbrev pub with_binding : List ℕ → Value → (Run → Run) → Run → Run
 with_binding name v body r = scoped_run (r.env ++ binding name v ∷ []) body r
 
--- the innermost binding of the name, which stands last, has this value; nothing where there is none
+-- a binding has the name
 abbrev pub binds : List ℕ → List Binding → Bool
 binds name [] = false
 binds name (b ∷ bs) = if same_text b.name name then true else binds name bs
 
+-- the innermost binding of the name, which stands last, has this value; nothing changes where there
+-- is none
 abbrev pub with_value : List ℕ → Value → List Binding → List Binding
 with_value name v [] = []
 with_value name v (b ∷ bs) =

@@ -9,6 +9,7 @@ pub struct Ctx {
     pub this: Option<Id>,
     /// The number of the request.
     pub number: u64,
-    /// The record around the one that is made. No form asks for it yet, so it is none.
+    /// The record of the innermost `for` around a statement, if that has one binder. A record of a
+    /// nested model that is made there takes its id from it.
     pub around: Option<Id>,
 }

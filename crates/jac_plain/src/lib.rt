@@ -17,5 +17,5 @@ pub use laws::{
 };
 pub use operations::{decided, is_true, two_values};
 pub use page::{Page, Piece};
-pub use pages::page_of;
-pub use pieces::{Form, make_piece};
+pub use pages::{make_page, page_of};
+pub use pieces::{Form, add_escaped, add_text, make_piece};

@@ -1,7 +1,7 @@
 //! The page that the pieces of a run make.
 ghost use Rattle.std.specs.Prelude.{◌≡◌, ◌++◌, ◌∷◌, [], None, IfOk, OnOk};
 ghost use Rattle.std.specs.Option.{option_copied, option_map};
-ghost use Rattle.jac_plain.specs.Requests.{location, body_of, is_missing, redirect_of, found_page, page_of as page_made};
+ghost use Rattle.jac_plain.specs.Requests.{location, body_of, is_missing, redirect_of, found_page, page_by, page_of as page_made};
 
 use crate::{Page, Piece};
 use jac_value::{Bytes, Memory, Txt};
@@ -16,14 +16,28 @@ pub fn page_of(alloc: Global, pieces: &[Piece]) -> Result<Page, Memory>
     ensures { IfOk result (λ p. p ≡ page_made pieces.now) }
 {
     let body = join_body(alloc, pieces)?;
-    if has_missing(pieces) {
+    let page = make_page(alloc, has_missing(pieces), last_redirect(pieces), body)?;
+    Ok(page)
+}
+
+/// The page of a run that leaves these bytes: it may say that it isn't there, or lead elsewhere.
+pub fn make_page(
+    alloc: Global,
+    is_missing: bool,
+    to: Option<&Txt>,
+    body: Bytes,
+) -> Result<Page, Memory>
+    ensures { IfOk result (λ p. p ≡ page_by is_missing (option_map location
+        (option_copied to.entry)) body) }
+{
+    if is_missing {
         return Ok(Page {
             status: 404,
             location: None,
             body,
         });
     }
-    let page = found(alloc, last_redirect(pieces), body)?;
+    let page = found(alloc, to, body)?;
     Ok(page)
 }
 

@@ -1,12 +1,12 @@
 //! Pieces of a page, in one world.
 ghost use Rattle.std.specs.Prelude.{◌≡◌, ◌++◌, IfOk, OnOk};
+ghost use Rattle.jac_value.specs.Html.{html};
 ghost use Rattle.jac_value.specs.Values.{value_text};
 ghost use Rattle.jac_plain.specs.Expressions.{bytes_of};
 ghost use Rattle.jac_plain.specs.Pieces.{piece_of};
-ghost use Rattle.jac_plain.specs.Statements.{html, html_byte};
 
 use crate::Piece;
-use jac_value::{Bytes, Memory, Txt, Value, text_of};
+use jac_value::{Bytes, Memory, Txt, Value, add_html, text_of};
 use std::alloc::Global;
 
 /// How a value comes onto a page.
@@ -23,15 +23,15 @@ pub enum Form {
 pub fn make_piece(alloc: Global, value: &Value, form: Form) -> Result<Piece, Memory>
     ensures { IfOk result (λ p. p ≡ piece_of form value.now) }
 {
+    let mut body = Vec::new(alloc);
     match form {
         Form::Text => {
-            let bytes = spell(alloc, value)?;
-            Ok(Piece::Added(bytes))
+            add_text(alloc, &mut body, value)?;
+            Ok(Piece::Added(Bytes::from_vec(body)))
         }
         Form::Escaped => {
-            let text = text_of(alloc, value)?;
-            let bytes = escape(alloc, text.as_bytes())?;
-            Ok(Piece::Added(bytes))
+            add_escaped(alloc, &mut body, value)?;
+            Ok(Piece::Added(Bytes::from_vec(body)))
         }
         Form::Location => {
             let to = location_of(alloc, value)?;
@@ -40,12 +40,31 @@ pub fn make_piece(alloc: Global, value: &Value, form: Form) -> Result<Piece, Mem
     }
 }
 
-fn spell(alloc: Global, value: &Value) -> Result<Bytes, Memory>
-    ensures { IfOk result (λ b. b ≡ value_text value.now) }
+/// Adds the text of the value to the bytes of a page.
+pub fn add_text(alloc: Global, body: &mut Vec<u8>, value: &Value) -> Result<(), Memory>
+    ensures { OnOk result (body.new.items ≡ body.old.items ++ value_text value.now) }
 {
-    let text = text_of(alloc, value)?;
-    let bytes = Bytes::from_slice(alloc, text.as_bytes())?;
-    Ok(bytes)
+    match value {
+        Value::Text(text) => body.extend_from_slice(text.as_bytes())?,
+        _ => {
+            let text = text_of(alloc, value)?;
+            body.extend_from_slice(text.as_bytes())?;
+        }
+    }
+    Ok(())
+}
+
+/// Adds the text of the value, as HTML shows it, to the bytes of a page.
+pub fn add_escaped(alloc: Global, body: &mut Vec<u8>, value: &Value) -> Result<(), Memory>
+    ensures { OnOk result (body.new.items ≡ body.old.items ++ html (value_text value.now)) }
+{
+    match value {
+        Value::Text(text) => add_html(body, text.as_bytes()),
+        _ => {
+            let text = text_of(alloc, value)?;
+            add_html(body, text.as_bytes())
+        }
+    }
 }
 
 // The text, or none for a value of another kind.
@@ -59,29 +78,4 @@ fn location_of(alloc: Global, value: &Value) -> Result<Txt, Memory>
         }
         _ => Ok(Txt::empty(alloc)),
     }
-}
-
-// The text as HTML shows it.
-fn escape(alloc: Global, text: &[u8]) -> Result<Bytes, Memory>
-    ensures { IfOk result (λ b. b ≡ html text.now) }
-{
-    let mut escaped = Vec::new(alloc);
-    'bytes: for byte in text {
-        add_escaped(&mut escaped, *byte)?;
-    }
-    Ok(Bytes::from_vec(escaped))
-}
-
-fn add_escaped(escaped: &mut Vec<u8>, byte: u8) -> Result<(), Memory>
-    ensures { OnOk result (escaped.new.items ≡ escaped.old.items ++ html_byte byte) }
-{
-    match byte {
-        b'&' => escaped.extend_from_slice(b"&amp;")?,
-        b'<' => escaped.extend_from_slice(b"&lt;")?,
-        b'>' => escaped.extend_from_slice(b"&gt;")?,
-        b'"' => escaped.extend_from_slice(b"&quot;")?,
-        b'\'' => escaped.extend_from_slice(b"&#39;")?,
-        _ => escaped.push(byte)?,
-    }
-    Ok(())
 }
