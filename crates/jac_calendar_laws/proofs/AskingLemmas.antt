@@ -11,7 +11,8 @@ use Rattle.std.specs.Option.{option_map}
 use Rattle.std.specs.Str.{is_utf8}
 use Rattle.std.proofs.lemmas.Bool.{and_from}
 use Rattle.jac_demo.specs.Requests.{viewer_number, open_digit, join_line, add_line, list_line, demo_line, lines_from, demo_text}
-use Rattle.jac_events.specs.Lines.{viewer_of_word, is_method, is_path_target, request_of_parts, ask_of, line_of}
+use Rattle.jac_value.specs.Visitors.{viewer_read}
+use Rattle.jac_events.specs.Lines.{is_method, is_path_target, request_of_parts, ask_of, line_of}
 use Rattle.jac_events.specs.Words.{word_at, read_quoted, with_byte}
 use Rattle.jac_calendar_laws.specs.Asking.{IsAsking, AreAsking}
 
@@ -102,7 +103,7 @@ record AreParts (viewer method target body : List ℕ) (number : Option ℕ) : T
   quiet_method : list_all is_quiet method ≡ true
   quiet_target : list_all is_quiet target ≡ true
   quiet_body : list_all is_quiet body ≡ true
-  numbered : viewer_of_word viewer ≡ Some number
+  numbered : viewer_read viewer ≡ Some number
   named : (is_method method && is_path_target target) ≡ true
 
 ask_written : (viewer method target body : List ℕ) (number : Option ℕ) → AreParts viewer method target body number
@@ -163,7 +164,7 @@ quiet_decimal n h =
 record IsViewer (word : List ℕ) : Type 0 where
   number : Option ℕ
   quiet : list_all is_quiet word ≡ true
-  numbered : viewer_of_word word ≡ Some number
+  numbered : viewer_read word ≡ Some number
 
 viewer_4096 : IsViewer (decimal 4096)
 unfolding digits

@@ -1,26 +1,14 @@
 -- The forms of an event's line, and the event that each writes down.
-use Rattle.std.specs.Prelude.{ℕ, ◌^◌, ◌==◌, ◌&&◌, nat_le, nat_lt, Bool, true, false, if◌then◌else◌, Option, Some, None, List, [], ◌∷◌, length, take, codes}
+use Rattle.std.specs.Prelude.{ℕ, ◌^◌, ◌==◌, ◌&&◌, nat_le, nat_lt, Bool, if◌then◌else◌, Option, Some, None, List, [], ◌∷◌, length, take, codes}
 use Rattle.std.specs.Option.{option_map, option_and_then}
 use Rattle.std.specs.List.{list_all, before_first, after_first}
-use Rattle.std.specs.Char.{is_ascii_digit, is_ascii_uppercase}
+use Rattle.std.specs.Char.{is_ascii_uppercase}
 use Rattle.std.specs.Str.{bytes_eq, is_utf8}
-use Rattle.std.specs.Str.Parse.{digits_value}
 use Rattle.jac_events.specs.Words.{word_at, after_byte, quoted_at}
 use Rattle.jac_events.specs.declared.event.Event.{Event}
 use Rattle.jac_events.specs.declared.event.Event.TheVariants.{Ask, Begin, Piece, Finish}
 use Rattle.jac_value.specs.Paths.{is_nil}
-
--- a number below the limit, of 1 to `most` decimal digits
-abbrev pub number_below : ℕ → ℕ → List ℕ → Option ℕ
-number_below most limit word =
-    if nat_lt 0 (length word) && nat_le (length word) most && list_all is_ascii_digit word && nat_lt
-    (digits_value 10 word) limit
-    then Some (digits_value 10 word) else None
-
--- a viewer's number, or `-` for nobody
-abbrev pub viewer_of_word : List ℕ → Option (Option ℕ)
-viewer_of_word word = if bytes_eq word (codes "-") then Some None
-    else option_map (λ n. Some n) (number_below 39 (2 ^ 128) word)
+use Rattle.jac_value.specs.Visitors.{number_below, viewer_read}
 
 -- the number of a connection
 abbrev pub conn_of : List ℕ → Option ℕ
@@ -52,7 +40,7 @@ ask_of rest =
     option_and_then (λ number.
     if is_method method.0 && is_path_target target.0 && is_nil body.1
     then Some (request_of_parts number method.0 target.0 body.0) else None)
-    (viewer_of_word viewer.0))
+    (viewer_read viewer.0))
     (quoted_at rest))
     (after_byte 32 target.1))
     (quoted_at method.1))

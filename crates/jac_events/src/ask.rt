@@ -5,10 +5,9 @@ ghost use Rattle.std.specs.Str.{IsUtf8, bytes_eq, is_utf8};
 ghost use Rattle.jac_events.specs.Lines.{is_method, is_path_target, request_of_parts, ask_of};
 
 use crate::Event;
-use crate::numbers::viewer_number;
 use crate::quoted::quoted;
 use crate::words::{behind, word};
-use jac_value::{Bytes, Memory, Txt, TxtFault};
+use jac_value::{Bytes, Memory, Txt, TxtFault, read_viewer};
 use std::alloc::Global;
 use std::str::from_utf8;
 
@@ -31,7 +30,7 @@ pub fn read_ask(alloc: Global, rest: &[u8]) -> Result<Option<Event>, Memory>
     let Some((body, rest)) = quoted(alloc, rest)? else {
         return Ok(None);
     };
-    let Some(viewer) = viewer_number(viewer) else {
+    let Some(viewer) = read_viewer(viewer) else {
         return Ok(None);
     };
     if !is_method(method) || !is_target(target.as_slice()) || !rest.is_empty() {

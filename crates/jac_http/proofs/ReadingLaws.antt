@@ -8,7 +8,7 @@ use Rattle.jac_http.specs.declared.taken.Request.{Request}
 use Rattle.jac_http.specs.declared.taken.Taken.{Taken}
 use Rattle.jac_http.specs.declared.taken.Taken.TheVariants.{More, Whole, Refused}
 use Rattle.jac_http.specs.Heads.{HeadParts, parts_of, ends_blank, head_from, head_in}
-use Rattle.jac_http.specs.Requests.{IsTaken, IsTakenAt, IsAnswered, without_head, answer_to, answer_by, refusal_status, body_length, request_of}
+use Rattle.jac_http.specs.Requests.{IsHead, IsTaken, IsTakenAt, IsAnswered, without_head, answer_to, answer_by, refusal_status, body_length, request_of}
 use Rattle.jac_http.specs.Reading.{IsReading, AreRead}
 
 -- ---- answers apart
@@ -171,6 +171,20 @@ reading = record {
   stays = λ bytes following answer other a. stays_at (head_in (take 8192 bytes)) bytes following answer refl other a;
   within = λ bytes request used a. within_at (head_in (take 8192 bytes)) bytes request used refl a;
 }
+
+-- ---- no bytes are without an answer
+
+some_answer : (front rest : List ℕ) → ((answer : Taken) → IsAnswered front rest answer → ⊥) → ⊥
+some_answer front rest none =
+    none (Refused 400)
+    (inr ((λ (head : RequestHead) (is : IsHead front head). none (answer_to (parts_of head) (length front) rest) (inl (head, is, refl))), refl))
+
+some_at : (o : Option (List ℕ)) (bytes : List ℕ) → ((answer : Taken) → IsTakenAt o bytes answer → ⊥) → ⊥
+some_at None bytes none = none (without_head (length bytes)) refl
+some_at (Some front) bytes none = some_answer front (drop (length front) bytes) none
+
+pub all_answered : (bytes : List ℕ) → ((answer : Taken) → IsTaken bytes answer → ⊥) → ⊥
+all_answered bytes none = some_at (head_in (take 8192 bytes)) bytes none
 
 -- ---- beginnings and cuttings
 

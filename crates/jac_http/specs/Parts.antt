@@ -1,11 +1,12 @@
 -- What the target and the headers of a request say (RFC 9112, sections 3 and 6; RFC 6265, section
 -- 4.2).
-use Rattle.std.specs.Prelude.{ℕ, Bool, false, ◌==◌, ◌&&◌, ◌||◌, not, nat_lt, nat_le, if◌then◌else◌, Option, Some, None, List, [], ◌∷◌, reverse, length, take, drop, position, codes, ◌+◌}
-use Rattle.std.specs.Char.{is_ascii_digit, is_ascii_alphanumeric}
+use Rattle.std.specs.Prelude.{ℕ, Bool, false, ◌==◌, ◌&&◌, ◌||◌, not, nat_lt, if◌then◌else◌, Option, Some, None, List, [], ◌∷◌, reverse, length, take, drop, position, codes, ◌+◌}
+use Rattle.std.specs.Char.{is_ascii_digit}
 use Rattle.std.specs.List.{list_any, list_all, starts_with, slice_split, before_first, after_first, position_or_len}
 use Rattle.std.specs.Option.{option_and_then, option_or}
 use Rattle.std.specs.Str.{bytes_eq, str_eq_ignore_ascii_case}
 use Rattle.std.specs.Str.Parse.{digits_value}
+use Rattle.jac_value.specs.Visitors.{is_session_token}
 
 -- the values of the headers of this name, in their order; names are compared without case
 abbrev pub values_of : List ℕ → List (List ℕ × List ℕ) → List (List ℕ)
@@ -96,15 +97,7 @@ session_in value = first_some (λ piece. session_value (stripped_of_blanks piece
     (λ b. b == 59)
     value)
 
-abbrev pub is_token_byte : ℕ → Bool
-is_token_byte b = is_ascii_alphanumeric b || b == 45 || b == 95
-
--- 1 to 128 letters, digits, `-` and `_`
-abbrev pub is_token : List ℕ → Bool
-is_token value = nat_lt 0 (length value) && nat_le (length value) 128 && list_all is_token_byte
-    value
-
 -- the token of the Cookie headers
 abbrev pub token_of : List (List ℕ) → Option (List ℕ)
-token_of cookies = option_and_then (λ value. if is_token value then Some value else None)
+token_of cookies = option_and_then (λ value. if is_session_token value then Some value else None)
     (first_some session_in cookies)

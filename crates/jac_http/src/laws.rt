@@ -11,6 +11,12 @@ pub fn requests_are_read()
     ensures { IsReading IsTaken }
 {}
 
+/// A law: no bytes are without an answer. That all of a request, its refusal and the beginning of
+/// one are none of theirs leads to a contradiction.
+pub fn all_bytes_are_read()
+    ensures { (bytes : List ℕ) → ((answer : Taken) → IsTaken bytes answer → ⊥) → ⊥ }
+{}
+
 /// A law: the proper beginning of a whole request is read as nothing else.
 pub fn beginnings_are_read()
     ensures { (bytes following : List ℕ) (request : Request) (answer : Taken) → following ≢ []

@@ -13,7 +13,7 @@ mod target;
 mod values;
 mod words;
 
-pub use laws::{any_cutting_is_read, beginnings_are_read, requests_are_read};
+pub use laws::{all_bytes_are_read, any_cutting_is_read, beginnings_are_read, requests_are_read};
 pub use reply::{Fixed, fixed_reply, write_reply};
 pub use take::take_request;
 pub use taken::{Request, Taken};

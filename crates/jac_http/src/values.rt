@@ -4,10 +4,11 @@ ghost use Rattle.std.specs.List.{list_any, list_all, before_first};
 ghost use Rattle.std.specs.Str.{str_eq_ignore_ascii_case};
 ghost use Rattle.std.specs.Option.{option_map, option_copied};
 ghost use Rattle.std.specs.Str.Parse.{digits_value};
-ghost use Rattle.jac_http.specs.Parts.{is_number, stated_length, is_no_form, has_no_form, is_closing, session_value, session_in, is_token, is_token_byte, first_some, token_of, stripped_of_blanks};
+ghost use Rattle.jac_value.specs.Visitors.{is_session_token};
+ghost use Rattle.jac_http.specs.Parts.{is_number, stated_length, is_no_form, has_no_form, is_closing, session_value, session_in, first_some, token_of, stripped_of_blanks};
 
 use crate::words::{is_same_word, parts, place_of, trimmed};
-use jac_value::Memory;
+use jac_value::{Memory, is_session_token};
 use std::alloc::Global;
 
 /// The length that the Content-Length headers state, or 65,537 where it is more; none where they
@@ -130,9 +131,14 @@ pub(crate) fn token_of<'v>(alloc: Global, cookies: &[&'v [u8]]) -> Result<Option
 }
 
 fn token_in(value: &[u8]) -> Option<&[u8]>
-    ensures { option_copied result ≡ (if is_token value.now then Some value.now else None) }
+    ensures { option_copied result ≡ (if is_session_token value.now
+        then Some value.now else None) }
 {
-    if is_token(value) { Some(value) } else { None }
+    if is_session_token(value) {
+        Some(value)
+    } else {
+        None
+    }
 }
 
 fn first_session<'v>(alloc: Global, cookies: &[&'v [u8]]) -> Result<Option<&'v [u8]>, Memory>
@@ -179,22 +185,4 @@ fn session_value(piece: &[u8]) -> Option<&[u8]>
         },
         None => None,
     }
-}
-
-fn is_token(value: &[u8]) -> bool
-    ensures { result ≡ is_token value.now }
-{
-    !value.is_empty() && value.len() <= 128 && all_token_bytes(value)
-}
-
-fn all_token_bytes(value: &[u8]) -> bool
-    ensures { result ≡ list_all is_token_byte value.now }
-{
-    value.iter().all(|byte| is_token_byte(*byte))
-}
-
-fn is_token_byte(byte: u8) -> bool
-    ensures { result ≡ is_token_byte byte }
-{
-    byte.is_ascii_alphanumeric() || byte == b'-' || byte == b'_'
 }
