@@ -1,4 +1,3 @@
-pub mod Escaped
 pub mod Pieces
 pub mod Tags
 pub mod Grammar
