@@ -4,7 +4,7 @@ use Rattle.std.specs.Prelude.{⊤}
 use Rattle.std.specs.Option.{option_map, option_and_then}
 use Rattle.std.proofs.lemmas.Bool.Decides.{nat_tests}
 use Rattle.clap.specs.Words.{Kinds, Row, fault_of, first_of, subcommand_of}
-use Rattle.jac_route.specs.Words.{viewer_read}
+use Rattle.jac_value.specs.Visitors.{viewer_read}
 use Rattle.jac_cli.specs.Grammar.{jac}
 use Rattle.jac_cli.specs.declared.words.Command.{Command}
 use Rattle.jac_cli.specs.declared.words.Command.TheVariants as commands

@@ -7,7 +7,7 @@ use Rattle.std.specs.Char.{is_ascii_digit}
 use Rattle.std.specs.Str.{bytes_eq}
 use Rattle.std.specs.Str.Parse.{digits_value}
 use Rattle.clap.specs.Words.{Kinds, Row, fault_of, first_of, subcommand_of}
-use Rattle.jac_route.specs.Words.{viewer_read}
+use Rattle.jac_value.specs.Visitors.{viewer_read}
 use Rattle.jac_cli.specs.Grammar.{jac}
 use Rattle.jac_cli.specs.declared.words.Command.{Command}
 use Rattle.jac_cli.specs.declared.words.Command.TheVariants as commands

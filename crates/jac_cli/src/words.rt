@@ -1,7 +1,7 @@
 ghost use Rattle.std.specs.Prelude.{◌≡◌, ◌≢◌, ◌≤◌, IfOk, IfSome, None, codes, map};
 ghost use Rattle.std.specs.Option.{option_map, option_and_then};
 ghost use Rattle.clap.specs.Words.{first_of, found_of, kind_of, rows_of, subcommand_rows_of};
-ghost use Rattle.jac_route.specs.Words.{viewer_read};
+ghost use Rattle.jac_value.specs.Visitors.{viewer_read};
 ghost use Rattle.jac_cli.specs.Words.{filled_text, labels_of_word, file_in, option_in, flag_in, positive_number, number_within, options_in, check_in, replay_in, serve_in, demo_in, dump_in, upgrade_in, why_in, command_named, entered_command, command_of};
 
 mod grammar;
@@ -11,8 +11,7 @@ mod numbers;
 use clap::error::ErrorKind;
 use clap::{ArgMatches, Error};
 use grammar::jac;
-use jac_route::read_viewer;
-use jac_value::{Memory, Txt};
+use jac_value::{Memory, Txt, read_viewer};
 pub use labels::Labels;
 use labels::labels_of;
 use numbers::number_within;

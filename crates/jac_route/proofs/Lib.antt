@@ -1,6 +1,7 @@
 pub mod AsciiLaws
+pub mod FirstLaws
 pub mod FoundLaws
 pub mod PairLaws
-pub mod PlaceLaws
 pub mod RowLaws
 pub mod TableLaws
+pub mod ViewLaws

@@ -2,6 +2,8 @@ pub mod Pairs
 pub mod Parameters
 pub mod PathPairs
 pub mod Routes
+pub mod Firsts
 pub mod Found
+pub mod Fitting
 pub mod Words
 pub mod Sessions

@@ -1,21 +1,16 @@
 -- The lines of a sessions file, and who looks by a token.
-use Rattle.std.specs.Prelude.{ℕ, ◌+◌, ◌==◌, ◌&&◌, nat_le, nat_lt, Bool, if◌then◌else◌, List, [], ◌∷◌, ◌++◌, ◌≡◌, ⊤, length, Option, Some, None, Result, Ok, Err}
+use Rattle.std.specs.Prelude.{ℕ, ◌+◌, ◌==◌, if◌then◌else◌, List, [], ◌∷◌, ◌++◌, ◌≡◌, ⊤, Option, Some, None, Result, Ok, Err}
 use Rattle.std.specs.Option.{option_and_then}
-use Rattle.std.specs.List.{slice_split, list_all}
+use Rattle.std.specs.List.{slice_split}
 use Rattle.std.specs.Str.{bytes_eq}
-use Rattle.jac_value.specs.Names.{is_atom_byte}
 use Rattle.jac_value.specs.Paths.{is_nil}
+use Rattle.jac_value.specs.Visitors.{is_session_token, viewer_read}
 use Rattle.jac_lang.specs.Syntax.{Application}
 use Rattle.jac_route.specs.declared.sessions.Session.{Session}
 use Rattle.jac_route.specs.declared.sessions.SessionFault.{SessionFault}
 use Rattle.jac_route.specs.declared.sessions.SessionFault.TheVariants as fault
 use Rattle.jac_route.specs.Parameters.{viewer_of}
-use Rattle.jac_route.specs.Words.{first_word, viewer_read}
-
--- 1 to 128 ASCII letters, digits, `-` and `_`
-abbrev pub is_session_token : List ℕ → Bool
-is_session_token word = nat_lt 0 (length word) && nat_le (length word) 128
-    && list_all is_atom_byte word
+use Rattle.jac_route.specs.Words.{first_word}
 
 -- `TOKEN VIEWER`
 abbrev pub session_of : List ℕ → Option Session

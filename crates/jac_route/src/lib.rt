@@ -1,6 +1,8 @@
 //! What a request hands to a view: its route, its pairs, its parameters, and who looks.
 #![tactic(auto)]
 
+mod firsts;
+mod laws;
 mod lookup;
 mod pairs;
 mod parameters;
@@ -9,9 +11,9 @@ mod routes;
 mod sessions;
 mod words;
 
+pub use laws::{clashes_have_a_reason, found_views_fit};
 pub use lookup::{Allow, Found, find};
 pub use pairs::{Pair, Pairs, pairs_of};
 pub use parameters::{bind, kind_by_name, viewer_id};
 pub use routes::{Route, RouteFault, Routes, routes_of};
 pub use sessions::{Session, SessionFault, Sessions, sessions_of, viewer_of};
-pub use words::read_viewer;

@@ -1,14 +1,17 @@
-ghost use Rattle.std.specs.Prelude.{◌≡◌, ◌<◌, ◌^◌, [], length, position, IfErr, IfOk, IfSome, OnOk, Ok};
+ghost use Rattle.std.specs.Prelude.{◌≡◌, ◌<◌, ◌^◌, [], length, IfErr, IfOk, OnOk, Ok};
 ghost use Rattle.std.specs.Option.{option_map};
 ghost use Rattle.matchit.specs.Route.{parse_route};
 ghost use Rattle.matchit.specs.Seek.{first};
 ghost use Rattle.jac_lang.specs.Mirror.{application_of, page_of_view, pages_of};
-ghost use Rattle.jac_route.specs.Routes.{AreRoutes, Clashes, insert_fault, same_verb, has_pattern, is_at, is_view_place, pattern_place, view_place, route_of, with_pattern, with_view, table_from, table_of};
+ghost use Rattle.jac_route.specs.Firsts.{firsts_at, route_by, with_view_by, table_by};
+ghost use Rattle.jac_route.specs.Routes.{AreRoutes, Clashes, insert_fault, is_view_place, with_pattern, table_from, table_of};
 
-use jac_lang::{App, Verb, View};
+use crate::firsts::{FirstViews, first_of_verb, first_views, firsts_of};
+use jac_lang::{App, View};
 use jac_value::{Memory, Txt};
 use matchit::{InsertError, Router};
 use std::alloc::Global;
+use std::collections::BTreeMap;
 use std::marker::Model;
 
 /// A pattern, with the number of its view for each method.
@@ -78,10 +81,34 @@ fn router_of(alloc: Global, views: &[View]) -> Result<Router<Route>, RouteFault>
     ensures clash { IfErr result
         (λ e. Clashes e (table_from (pages_of views.now) 0 (pages_of views.now) [])) }
 {
+    match firsts_of(alloc, views) {
+        Ok(firsts) => router_by(alloc, &firsts, views),
+        Err(Memory) => Err(RouteFault::Memory),
+    }
+}
+
+// The routes of the views, by the first views of each pattern.
+fn router_by(
+    alloc: Global,
+    firsts: &BTreeMap<Txt, FirstViews>,
+    views: &[View],
+) -> Result<Router<Route>, RouteFault>
+    requires few { length views.now < 2 ^ 32 }
+    ensures ok { IfOk result (λ rows. table_by (firsts_at firsts.now) 0 (pages_of views.now) []
+        ≡ Ok rows) }
+    ensures clash { IfErr result
+        (λ e. Clashes e (table_by (firsts_at firsts.now) 0 (pages_of views.now) [])) }
+{
     let mut router = Router::new(alloc);
     let mut number: u32 = 0;
     'views: for view in views {
-        match add_view(alloc, views, number, view, &mut router) {
+        match add_view(
+            alloc,
+            first_views(firsts, &view.path),
+            number,
+            view,
+            &mut router,
+        ) {
             Ok(()) => number += 1,
             Err(fault) => return Err(fault),
         }
@@ -92,25 +119,23 @@ fn router_of(alloc: Global, views: &[View]) -> Result<Router<Route>, RouteFault>
 // Adds the view of this number: a pattern that an earlier view has too is there already.
 fn add_view(
     alloc: Global,
-    views: &[View],
+    first: FirstViews,
     number: u32,
     view: &View,
     router: &mut Router<Route>,
 ) -> Result<(), RouteFault>
-    requires few { length views.now < 2 ^ 32 }
-    ensures ok { OnOk result (with_view (pages_of views.now) number
-        (page_of_view view.now) router.old
+    ensures ok { OnOk result (with_view_by first number (page_of_view view.now) router.old
         ≡ Ok router.new) }
-    ensures clash { IfErr result (λ e. Clashes e (with_view (pages_of views.now) number
+    ensures clash { IfErr result (λ e. Clashes e (with_view_by first number
         (page_of_view view.now) router.old)) }
 {
-    if !is_place(number, view_place(views, view.method, &view.path)) {
+    if !is_place(number, first_of_verb(first, view.method)) {
         return Err(RouteFault::Clash(number));
     }
-    if !is_place(number, pattern_place(views, &view.path)) {
+    if !is_place(number, first.any) {
         return Ok(());
     }
-    match route_of(alloc, views, &view.path) {
+    match route_by(alloc, first, &view.path) {
         Ok(route) => add_route(number, &view.path, route, router),
         Err(Memory) => Err(RouteFault::Memory),
     }
@@ -146,14 +171,15 @@ fn fault_of(number: u32, error: &InsertError) -> RouteFault
 }
 
 // A pattern and the views that have it.
-fn route_of(alloc: Global, views: &[View], pattern: &Txt) -> Result<Route, Memory>
-    requires few { length views.now < 2 ^ 32 }
-    ensures { IfOk result (λ route. route ≡ route_of (pages_of views.now) pattern.now) }
+fn route_by(alloc: Global, first: FirstViews, pattern: &Txt) -> Result<Route, Memory>
+    ensures { IfOk result (λ route. route ≡ route_by first pattern.now) }
 {
-    let get = view_place(views, Verb::Get, pattern);
-    let post = view_place(views, Verb::Post, pattern);
     let pattern = pattern.copy(alloc)?;
-    Ok(Route { pattern, get, post })
+    Ok(Route {
+        pattern,
+        get: first.get,
+        post: first.post,
+    })
 }
 
 fn is_place(number: u32, place: Option<u32>) -> bool
@@ -162,63 +188,5 @@ fn is_place(number: u32, place: Option<u32>) -> bool
     match place {
         Some(place) => place == number,
         None => false,
-    }
-}
-
-// The number of the first view of a method and a pattern.
-fn view_place(views: &[View], verb: Verb, pattern: &Txt) -> Option<u32>
-    requires few { length views.now < 2 ^ 32 }
-    ensures { result ≡ view_place (pages_of views.now) verb pattern.now }
-{
-    match place_at(views, verb, pattern) {
-        Some(place) => Some(place as u32),
-        None => None,
-    }
-}
-
-fn place_at(views: &[View], verb: Verb, pattern: &Txt) -> Option<usize>
-    ensures place { result ≡ position (λ v. is_at verb pattern.now (page_of_view v)) views.now }
-    ensures within { IfSome result (λ n. n < length views.now) }
-{
-    views.iter().position(|view| is_at(view, verb, pattern))
-}
-
-// The number of the first view of a pattern.
-fn pattern_place(views: &[View], pattern: &Txt) -> Option<u32>
-    requires few { length views.now < 2 ^ 32 }
-    ensures { result ≡ pattern_place (pages_of views.now) pattern.now }
-{
-    match place_of(views, pattern) {
-        Some(place) => Some(place as u32),
-        None => None,
-    }
-}
-
-fn place_of(views: &[View], pattern: &Txt) -> Option<usize>
-    ensures place { result ≡ position (λ v. has_pattern pattern.now (page_of_view v)) views.now }
-    ensures within { IfSome result (λ n. n < length views.now) }
-{
-    views.iter().position(|view| has_pattern(view, pattern))
-}
-
-fn has_pattern(view: &View, pattern: &Txt) -> bool
-    ensures { result ≡ has_pattern pattern.now (page_of_view view.now) }
-{
-    view.path == *pattern
-}
-
-fn is_at(view: &View, verb: Verb, pattern: &Txt) -> bool
-    ensures { result ≡ is_at verb pattern.now (page_of_view view.now) }
-{
-    is_same(view.method, verb) && view.path == *pattern
-}
-
-fn is_same(one: Verb, other: Verb) -> bool
-    ensures { result ≡ same_verb one other }
-{
-    match (one, other) {
-        (Verb::Get, Verb::Get) => true,
-        (Verb::Post, Verb::Post) => true,
-        _ => false,
     }
 }

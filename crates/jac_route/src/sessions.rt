@@ -2,12 +2,12 @@ ghost use Rattle.std.specs.Prelude.{◌≡◌, ◌++◌, [], IfOk, IfErr, OnOk, 
 ghost use Rattle.std.specs.Option.{option_and_then, option_copied};
 ghost use Rattle.jac_lang.specs.Mirror.{application_of};
 ghost use Rattle.jac_route.specs.Parameters.{viewer_of};
-ghost use Rattle.jac_route.specs.Sessions.{Refuses, is_session_token, session_of, line_read, session_list, sessions_in, session_named, session_viewer};
+ghost use Rattle.jac_route.specs.Sessions.{Refuses, session_of, line_read, session_list, sessions_in, session_named, session_viewer};
 
 use crate::viewer_id;
-use crate::words::{atom_text, first_word, read_viewer};
+use crate::words::{atom_text, first_word};
 use jac_lang::App;
-use jac_value::{Id, Memory, Txt, are_atom_bytes, first_part};
+use jac_value::{Id, Memory, Txt, first_part, is_session_token, read_viewer};
 use std::alloc::Global;
 use std::marker::Model;
 
@@ -112,17 +112,11 @@ fn read_session(alloc: Global, line: &[u8]) -> Result<Option<Session>, Memory>
     let Some(viewer) = read_viewer(word) else {
         return Ok(None);
     };
-    if !is_token(token) {
+    if !is_session_token(token) {
         return Ok(None);
     }
     let token = atom_text(alloc, token)?;
     Ok(Some(Session { token, viewer }))
-}
-
-fn is_token(word: &[u8]) -> bool
-    ensures { result ≡ is_session_token word.now }
-{
-    !word.is_empty() && word.len() <= 128 && are_atom_bytes(word)
 }
 
 fn push_listed(session: Option<Session>, sessions: &mut Vec<Session>) -> Result<(), Memory>

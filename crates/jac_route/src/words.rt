@@ -1,33 +1,12 @@
-ghost use Rattle.std.specs.Prelude.{◌≡◌, ◌==◌, ◌<◌, ◌^◌, true, IfOk, IfSome, length, position, Some, None};
+ghost use Rattle.std.specs.Prelude.{◌≡◌, ◌==◌, ◌<◌, true, IfOk, IfSome, length, position, Some, None};
 ghost use Rattle.std.specs.Option.{option_map};
 ghost use Rattle.std.specs.List.{list_all};
 ghost use Rattle.jac_value.specs.Names.{is_atom_byte};
-ghost use Rattle.jac_route.specs.Words.{first_word, number_read, viewer_read};
+ghost use Rattle.jac_route.specs.Words.{first_word};
 
-use jac_value::{Memory, Txt, TxtFault, are_digits, decimal};
+use jac_value::{Memory, Txt, TxtFault};
 use std::alloc::Global;
 use std::str;
-
-/// A viewer's number, or `-` for nobody: 1 to 39 decimal digits whose number is below 2^128.
-pub fn read_viewer(word: &[u8]) -> Option<Option<u128>>
-    ensures { result ≡ viewer_read word.now }
-{
-    if word == b"-".as_slice() {
-        Some(None)
-    } else {
-        read_number(word).map(Some)
-    }
-}
-
-fn read_number(word: &[u8]) -> Option<u128>
-    ensures { result ≡ number_read word.now }
-{
-    if word.is_empty() || word.len() > 39 || !are_digits(word) {
-        None
-    } else {
-        decimal(word)
-    }
-}
 
 // The word before the first space, and what follows that space.
 pub(crate) fn first_word(line: &[u8]) -> Option<(&[u8], &[u8])>
