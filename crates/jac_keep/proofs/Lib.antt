@@ -13,3 +13,4 @@ pub mod Gathered
 pub mod Held
 pub mod Rewritten
 pub mod IndexLaws
+pub mod Nearby

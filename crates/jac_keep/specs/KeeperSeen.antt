@@ -41,3 +41,8 @@ pub record Reads {T : Type 0} (old new : KeeperSeen) (result : Result T Stop) : 
   pub left : IsLeft old new
   pub good : IsTrue new.tells → IsSound new.state
   pub rose : IsErrOf result Keeper → Rose old.faults new.faults
+
+-- what a call keeps that only looks where something is
+pub record Looks {T : Type 0} (old new : KeeperSeen) (result : Result T Stop) : Type 0 where
+  pub left : IsLeft old new
+  pub rose : IsErrOf result Keeper → Rose old.faults new.faults

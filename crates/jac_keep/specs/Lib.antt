@@ -3,6 +3,7 @@ pub mod Alterations
 pub mod Cause
 pub mod ChangedState
 pub mod KeeperSeen
+pub mod Preorder
 pub mod WorkState
 pub mod Sound
 pub mod KeeperState

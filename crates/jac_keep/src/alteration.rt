@@ -5,11 +5,11 @@ ghost use Rattle.std.specs.List.Sorted.{IsPartitionPoint};
 ghost use Rattle.jac_world.specs.World.{IsRisingBy};
 ghost use Rattle.jac_rows.specs.declared.row.Row.{Row as Seen};
 ghost use Rattle.jac_keep.specs.declared.alteration.Alteration.{Alteration as Named};
-ghost use Rattle.jac_keep.specs.Alterations.{AreApart, alternatives_named, with_alteration, altered_rows};
+ghost use Rattle.jac_keep.specs.Alterations.{AreApart, alternatives_named, with_alteration, altered_rows, alters};
 
 use crate::placement::alter_rows;
 use jac_rows::Rows;
-use jac_value::{Id, Memory};
+use jac_value::{Id, Memory, id_model};
 use std::alloc::Global;
 use std::marker::Model;
 
@@ -121,6 +121,18 @@ impl Alterations {
         let rows = alter_rows(alloc, self.changed.as_slice(), model, rows.into_vec())?;
         Ok(Rows::from_vec(rows))
     }
+}
+
+/// Whether a record of the model is altered.
+pub fn is_altered(changed: &[Alteration], model: usize) -> bool
+    ensures { result ≡ alters model changed.now }
+{
+    'changed: for alteration in changed {
+        if usize::from(id_model(alteration.id)) == model {
+            return true;
+        }
+    }
+    false
 }
 
 // Names the record, in place of its earlier alteration if there is one.

@@ -9,7 +9,7 @@ ghost use Rattle.jac_keep.specs.Records.{alternatives};
 ghost use Rattle.jac_keep.specs.MatchingRecords.{holders};
 ghost use Rattle.jac_keep.specs.Indexed.{AreIndexesOf, AreIndexesIfMade};
 ghost use Rattle.jac_keep.specs.Cause.{HasCause};
-ghost use Rattle.jac_keep.specs.KeeperSeen.{Keeps, Reads};
+ghost use Rattle.jac_keep.specs.KeeperSeen.{Keeps, Looks, Reads};
 ghost use Rattle.jac_keep.specs.ChangedState.{changed_state};
 ghost use Rattle.jac_keep.specs.Attaching.{Attaches};
 ghost use Rattle.jac_keep.specs.Reshaping.{widened_state, Reshapes};
@@ -17,9 +17,9 @@ ghost use Rattle.jac_keep.specs.Schema.{IsSchema, IsFit, empties};
 ghost use Rattle.jac_keep.specs.declared.vault.AttachFault.TheVariants.{Failed, Other};
 
 use crate::opening::{reshape_tables, widen};
-use crate::places::place_in;
+use crate::places::{own_near, place_in};
 use crate::together::alter_together;
-use crate::{AttachFault, Change, Keeper, Stop, TableIndexes, Vault, shape_of};
+use crate::{AttachFault, Change, Keeper, LastPlaces, Place, Stop, TableIndexes, Vault, shape_of};
 use jac_io::Calls;
 use jac_rows::{Row, Rows, State, Tables};
 use jac_value::{Id, Memory, Txt, Value, copy_name, id_model};
@@ -27,8 +27,8 @@ use std::alloc::Global;
 use std::marker::Model;
 
 /// A keeper in memory, which tells its state. A call fails where it is a listed one. Reads are the
-/// calls of `number`, `rows`, `rows_with` and `one`; they are counted apart from the applies, a
-/// reshape among these, from 1.
+/// calls of `number`, `rows`, `rows_with`, `one`, `find` and `find_rows`; they are counted apart
+/// from the applies, a reshape among these, from 1.
 #[derive(Debug, Drop)]
 pub struct MemoryKeeper {
     called: bool,
@@ -38,6 +38,7 @@ pub struct MemoryKeeper {
     state: State,
     // Of the fields that `rows_with` was asked for, once it was. They change with their tables.
     indexes: Option<TableIndexes>,
+    places: LastPlaces,
     fail_reads: Calls,
     fail_applies: Calls,
     reads: u64,
@@ -84,6 +85,7 @@ impl MemoryKeeper {
             name: None,
             state,
             indexes: None,
+            places: LastPlaces::none(),
             fail_reads,
             fail_applies,
             reads: 0,
@@ -112,6 +114,7 @@ impl MemoryKeeper {
             name: None,
             state,
             indexes: None,
+            places: LastPlaces::none(),
             fail_reads,
             fail_applies,
             reads: 0,
@@ -220,6 +223,40 @@ impl Keeper for MemoryKeeper {
         self.count_read()?;
         let rows = find(alloc, &self.state, &mut self.indexes, model, field, value)?;
         Ok(rows)
+    }
+
+    fn find(&mut self, id: Id) -> Result<Option<Place>, Stop>
+        ensures left { self.new ≡ after_read self.old }
+        ensures stopped { IsErrOf result Stop.Keeper ↔ IsTrue (read_fails self.old) }
+        ensures looks { Looks (seen_keeper self.old) (seen_keeper self.new) result }
+    {
+        self.count_read()?;
+        let rows = self.state.tables.rows(id_model(id));
+        Ok(Some(self.places.find(rows, id)))
+    }
+
+    fn held(&self, id: Id, near: Place) -> Option<&[Row]>
+        ensures { IfSome result (λ rows. rows.now ≡ alternatives id
+            (rows_of self.now.state.tables (model_of_id id))) }
+    {
+        Some(own_of(&self.state, id, near))
+    }
+
+    fn find_rows(&mut self, alloc: Global, model: u8) -> Result<bool, Stop>
+        ensures left { self.new ≡ after_read self.old }
+        ensures stopped { IsErrOf result Stop.Keeper ↔ IsTrue (read_fails self.old) }
+        ensures looks { Looks (seen_keeper self.old) (seen_keeper self.new) result }
+    {
+        let _ = alloc;
+        let _ = model;
+        self.count_read()?;
+        Ok(true)
+    }
+
+    fn held_rows(&self, model: u8) -> Option<&[Row]>
+        ensures { IfSome result (λ rows. rows.now ≡ rows_of self.now.state.tables model) }
+    {
+        Some(self.state.tables.rows(model))
     }
 
     fn apply(&mut self, alloc: Global, change: &Change) -> Result<(), Stop>
@@ -443,4 +480,13 @@ fn copy_of(alloc: Global, state: &State, id: Id) -> Result<Rows, Memory>
     let (_, from) = rows.split_at(place.start);
     let (own, _) = from.split_at(place.count);
     Rows::from_slice(alloc, own)
+}
+
+// The rows of the record, which are sought near the place first.
+fn own_of(state: &State, id: Id, near: Place) -> &[Row]
+    requires { IsSound state.now }
+    ensures { result.now ≡ alternatives id (rows_of state.now.tables (model_of_id id)) }
+{
+    let rows = state.tables.rows(id_model(id));
+    own_near(rows, id, near)
 }

@@ -6,7 +6,7 @@ ghost use Rattle.jac_tree.specs.Mirror.{plain, plain_all};
 ghost use Rattle.jac_tree.specs.Printed.{printed_tree};
 ghost use Rattle.jac_tree.specs.declared.fault.TreeFault.TheVariants as faults;
 ghost use Rattle.jac_keep.specs.Schema.{IsSchema, are_group_trees, behind_nested, are_name_trees, begins_with_name, each_of, have_groups, is_group, is_name_tree, kind_of_tree, kind_of_field, is_nested_in, kinds_of_trees, kinds_of_lists, kinds_of_model, kinds_of_models, kinds_of_parts, kinds_of_schema, nested_of_models, nested_of_schema, place_from, place_named, plain_kind, reference_kind, shapes_by, shapes_of_schema, starts_nested};
-ghost use Rattle.jac_tree.specs.Plain.{count, is_word, tail_of};
+ghost use Rattle.jac_tree.specs.Plain.{count, is_word, nesting, tail_of};
 
 use jac_rows::{Flags, KindLists, Shape};
 use jac_tree::{Tree, TreeFault, Trees, is_up_to, is_word, print_tree, read_text, tail_of};
@@ -58,6 +58,7 @@ fn without_tree(fault: TreeFault) -> Result<Option<Shape>, Memory>
 
 // The shape that a tree gives, where the text is what it is printed as.
 fn shape_of_printed(alloc: Global, text: &Txt, tree: &Tree) -> Result<Option<Shape>, Memory>
+    requires { nesting (plain tree.now) ≤ 64 }
     ensures { IfOk result (λ found. option_map (λ s. shapes_by s.kinds s.nested) found
         ≡ (if bytes_eq text.now (printed_tree (plain tree.now)) then shapes_of_schema
         (plain tree.now)

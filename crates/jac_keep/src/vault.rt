@@ -49,5 +49,7 @@ pub trait Vault: Keeper {
             × (IsTrue (Self.seen self.old).tells
             → IsFit shapes
             (widened_state (length shapes) (changed_state change.now (Self.seen self.old).state))) }
-        ensures { Reshapes (Self.seen self.old) (Self.seen self.new) change.now schema.now result };
+        ensures reshapes { Reshapes (Self.seen self.old) (Self.seen self.new) change.now schema.now
+            result }
+        ensures goes { Self.goes.holds self.old self.new };
 }

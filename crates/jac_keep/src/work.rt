@@ -1,5 +1,5 @@
 //! The work of one request: a keeper, and the records that the request replaced.
-ghost use Rattle.std.specs.Prelude.{◌≡◌, ◌<◌, ◌≤◌, [], length, All, IfOk, IsOkAnd, OnOk, IsTrue};
+ghost use Rattle.std.specs.Prelude.{◌≡◌, ◌<◌, ◌≤◌, [], length, All, IfOk, IfSome, IsOkAnd, OnOk, IsTrue};
 ghost use Rattle.jac_value.specs.Ids.{model_of_id};
 ghost use Rattle.jac_rows.specs.Tables.{rows_of};
 ghost use Rattle.jac_keep.specs.Records.{alternatives};
@@ -10,8 +10,8 @@ ghost use Rattle.jac_keep.specs.ChangedState.{state_with, changed_state};
 ghost use Rattle.jac_keep.specs.WorkState.{state_of, IsTold, LeavesKeeper, ReadsWork};
 
 use crate::masks::masked;
-use crate::{Alterations, Change, Keeper, Stop};
-use jac_rows::Rows;
+use crate::{Alterations, Change, Keeper, Place, Stop, is_altered};
+use jac_rows::{Row, Rows};
 use jac_value::{Id, Memory, Value};
 use std::alloc::Global;
 
@@ -102,6 +102,56 @@ impl<'k, K: Keeper> WorkOver<'k, K, Overlay> {
                 Ok(rows)
             }
         }
+    }
+
+    /// Where the alternatives of one record stand, if they are at hand.
+    pub fn look(&mut self, id: Id) -> Result<Option<Place>, Stop>
+        requires { IsTrue (K.seen self.old.keeper.now).store.attached }
+        ensures { ReadsWork K.seen self.old self.new result }
+    {
+        match self.over.find(id) {
+            Some(_) => Ok(Some(Place { start: 0, count: 0 })),
+            None => {
+                let place = self.keeper.find(id)?;
+                Ok(place)
+            }
+        }
+    }
+
+    /// The alternatives of one record, lent, if they are at hand. They are sought near the place
+    /// first, and found wherever they stand.
+    pub fn looked(&self, id: Id, near: Place) -> Option<&[Row]>
+        ensures { IfSome result (λ rows. IsTold K.seen self.now
+            → rows.now ≡ alternatives id (rows_of (state_of K.seen self.now).tables
+            (model_of_id id))) }
+    {
+        match self.over.find(id) {
+            Some(rows) => Some(rows.as_slice()),
+            None => self.keeper.held(id, near),
+        }
+    }
+
+    /// Whether the rows of the model are at hand. They aren't where a record of it was replaced.
+    pub fn look_rows(&mut self, model: u8) -> Result<bool, Stop>
+        requires { IsTrue (K.seen self.old.keeper.now).store.attached }
+        ensures { ReadsWork K.seen self.old self.new result }
+    {
+        if is_altered(self.over.as_slice(), usize::from(model)) {
+            return Ok(false);
+        }
+        let found = self.keeper.find_rows(self.alloc, model)?;
+        Ok(found)
+    }
+
+    /// All rows of the model, lent, if they are at hand.
+    pub fn looked_rows(&self, model: u8) -> Option<&[Row]>
+        ensures { IfSome result (λ rows. IsTold K.seen self.now
+            → rows.now ≡ rows_of (state_of K.seen self.now).tables model) }
+    {
+        if is_altered(self.over.as_slice(), usize::from(model)) {
+            return None;
+        }
+        self.keeper.held_rows(model)
     }
 
     /// Puts these rows in place of the record's alternatives. With no rows the record is gone.
