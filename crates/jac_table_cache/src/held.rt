@@ -1,5 +1,5 @@
 //! The tables that are held, each at the place of its model, and their indexes.
-ghost use Rattle.std.specs.Prelude.{◌≡◌, ◌<◌, ◌==◌, ◌&&◌, ℕ, true, false, List, [], Some, None, length, if◌then◌else◌, IfOk, IfSome, OnOk, OnErr};
+ghost use Rattle.std.specs.Prelude.{◌≡◌, ◌<◌, ◌==◌, ◌&&◌, ℕ, true, false, List, [], Some, None, length, if◌then◌else◌, is_some, IfOk, IfSome, OnOk, OnErr};
 ghost use Rattle.std.specs.Option.{option_copied, option_map};
 ghost use Rattle.jac_rows.specs.declared.row.Row.{Row as Seen};
 ghost use Rattle.jac_keep.specs.Alterations.{alters};
@@ -8,9 +8,9 @@ ghost use Rattle.jac_keep.specs.Records.{AreOrdered, are_in_order};
 ghost use Rattle.jac_table_cache.specs.Held.{held, rows_held, IsAfter, IsHolding, IsLater};
 
 use crate::indexes::{alter_indexes, forget_dropped, table_of};
-use jac_keep::{Alteration, Alterations, TableIndexes, is_in_order};
+use jac_keep::{Alterations, TableIndexes, is_altered, is_in_order};
 use jac_rows::Rows;
-use jac_value::{Memory, Value, id_model};
+use jac_value::{Memory, Value};
 use std::alloc::Global;
 use std::marker::Model;
 
@@ -48,6 +48,13 @@ impl HeldTables {
         ensures { option_copied result ≡ held model self.now }
     {
         table_of(self.tables.as_slice(), model)
+    }
+
+    /// Whether the model's table is held.
+    pub fn holds(&self, model: u8) -> bool
+        ensures { result ≡ is_some (held model self.now) }
+    {
+        self.find(model).is_some()
     }
 
     /// All alternatives of each record of which one has the value at the field, if the model's
@@ -213,18 +220,6 @@ fn renew_at(alloc: Global, tables: &mut Vec<Option<Rows>>, at: usize, changed: &
     let before = take_at(tables, at);
     let after = altered_table(alloc, before, at, changed);
     put_at(tables, at, after);
-}
-
-// Whether a record of the model is altered.
-fn is_altered(changed: &[Alteration], model: usize) -> bool
-    ensures { result ≡ alters model changed.now }
-{
-    'changed: for alteration in changed {
-        if usize::from(id_model(alteration.id)) == model {
-            return true;
-        }
-    }
-    false
 }
 
 fn take_at(tables: &mut Vec<Option<Rows>>, at: usize) -> Option<Rows>

@@ -13,8 +13,8 @@ ghost use Rattle.jac_keep.specs.Reshaping.{widened_state, Reshapes};
 
 use crate::held::HeldTables;
 use crate::places::own_rows;
-use jac_keep::{AttachFault, Change, Keeper, Stop, Vault, holders};
-use jac_rows::Rows;
+use jac_keep::{AttachFault, Change, Keeper, LastPlaces, Place, Stop, Vault, holders, own_near};
+use jac_rows::{Row, Rows};
 use jac_value::{Id, Txt, Value, id_model};
 use std::alloc::Global;
 use std::marker::Model;
@@ -25,6 +25,7 @@ use std::marker::Model;
 pub struct CachedKeeper<K: Keeper> {
     keeper: K,
     tables: HeldTables,
+    places: LastPlaces,
 }
 
 impl<K: Keeper> Model for CachedKeeper<K> {
@@ -45,6 +46,7 @@ impl<K: Keeper> CachedKeeper<K> {
         CachedKeeper {
             keeper,
             tables: HeldTables::none(alloc),
+            places: LastPlaces::none(),
         }
     }
 
@@ -58,6 +60,8 @@ impl<K: Keeper> CachedKeeper<K> {
 
 impl<K: Keeper> Keeper for CachedKeeper<K> {
     ghost seen = { K.seen };
+
+    ghost goes = { K.goes };
 
     fn number(&mut self) -> Result<u64, Stop> {
         self.keeper.number()
@@ -80,6 +84,37 @@ impl<K: Keeper> Keeper for CachedKeeper<K> {
             return Ok(rows);
         }
         self.keeper.one(alloc, id)
+    }
+
+    fn find(&mut self, id: Id) -> Result<Option<Place>, Stop> {
+        match self.tables.find(id_model(id)) {
+            Some(rows) => Ok(Some(self.places.find(rows.as_slice(), id))),
+            None => self.keeper.find(id),
+        }
+    }
+
+    fn held(&self, id: Id, near: Place) -> Option<&[Row]> {
+        match self.tables.find(id_model(id)) {
+            Some(rows) => Some(own_near(rows.as_slice(), id, near)),
+            None => self.keeper.held(id, near),
+        }
+    }
+
+    /// It reads the whole table where that isn't held, and holds it then.
+    fn find_rows(&mut self, alloc: Global, model: u8) -> Result<bool, Stop> {
+        if self.tables.holds(model) {
+            return Ok(true);
+        }
+        let table = self.keeper.rows(alloc, model)?;
+        self.tables.hold(model, table)?;
+        Ok(self.tables.holds(model))
+    }
+
+    fn held_rows(&self, model: u8) -> Option<&[Row]> {
+        match self.tables.find(model) {
+            Some(rows) => Some(rows.as_slice()),
+            None => self.keeper.held_rows(model),
+        }
     }
 
     /// It reads the whole table where that isn't held, and holds it then. A table that is held is
