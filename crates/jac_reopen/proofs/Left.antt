@@ -1,6 +1,6 @@
 -- Two steps of a keeper as one: a call that the keeper stopped, and then a look at whether its store is shut.
 use Rattle.std.proofs.Common.{◌≡◌, ◌∙◌, ℕ, List, Some, Result, Err, IsTrue, arith}
-use Rattle.jac_keep.specs.KeeperSeen.{KeeperSeen, Store, Keeps, Reads, IsLeft}
+use Rattle.jac_keep.specs.KeeperSeen.{KeeperSeen, Store, Keeps, Looks, Reads, IsLeft}
 use Rattle.jac_keep.specs.Reshaping.{Reshapes}
 use Rattle.jac_keep.specs.declared.alteration.Change.{Change}
 use Rattle.jac_keep.specs.declared.stop.Stop.{Stop}
@@ -13,6 +13,12 @@ left_then a b c one two = record {
   told = λ told. one.told (two.told told);
   same_state = λ told. two.same_state told ∙ one.same_state (two.told told);
   same_store = two.same_store ∙ one.same_store;
+}
+
+pub looks_then : {T : Type 0} (a b c : KeeperSeen) (result : Result T Stop) → IsLeft b c → Looks a b result → Looks a c result
+looks_then a b c result left looks = record {
+  left = left_then a b c looks.left left;
+  rose = λ is. let rose = looks.rose is in omega (arith, rose, left.later);
 }
 
 module _ (a b c : KeeperSeen) (left : IsLeft b c) (good : IsTrue c.tells → IsSound c.state) where

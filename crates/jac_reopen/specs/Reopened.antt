@@ -1,6 +1,7 @@
 -- what is seen of a store that may be opened again
-use Rattle.std.specs.Prelude.{ℕ, true, false, List, [], Option, Some, None}
+use Rattle.std.specs.Prelude.{◌≡◌, ◌≤◌, ◌⊎◌, ⊤, ℕ, true, false, List, [], Option, Some, None}
 use Rattle.jac_rows.specs.Good.{ModelShape}
+use Rattle.jac_io.specs.Faults.{Rose}
 use Rattle.jac_keep.specs.KeeperSeen.{KeeperSeen, Store}
 use Rattle.jac_keep.specs.Schema.{IsSchema}
 
@@ -54,3 +55,20 @@ seen_either seen first (Some u) = seen_untold u
 
 abbrev pub seen_reopening : {V : Type 0} → (V → KeeperSeen) → ReopenSeen V → KeeperSeen
 seen_reopening seen r = seen_either seen r.first r.again
+
+-- one is there before and after, and goes on so, or none is
+abbrev pub GoesAlong : {V : Type 0} → (V → V → Type 0) → Option V → Option V → Type 0
+GoesAlong Goes None None = ⊤
+GoesAlong Goes None (Some b) = ⊥
+GoesAlong Goes (Some a) None = ⊥
+GoesAlong Goes (Some a) (Some b) = Goes a b
+
+-- between two calls: only one that counted a fault gives up the vault that was attached first, for
+-- good, and until then that goes on as it says itself
+pub record GivesUpAtFault {V : Type 0} (seen : V → KeeperSeen) (Goes : V → V → Type 0)
+    (old new : ReopenSeen V) : Type 0 where
+  pub later : (seen_reopening seen old).faults ≤ (seen_reopening seen new).faults
+  pub fault : old.again ≡ None → (new.again ≡ None)
+      ⊎ Rose (seen_reopening seen old).faults (seen_reopening seen new).faults
+  pub once : new.again ≡ None → old.again ≡ None
+  pub first : new.again ≡ None → GoesAlong Goes old.first new.first

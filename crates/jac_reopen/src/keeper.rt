@@ -6,11 +6,12 @@ ghost use Rattle.jac_keep.specs.KeeperSeen.{IsLeft};
 ghost use Rattle.jac_keep.specs.ChangedState.{changed_state};
 ghost use Rattle.jac_keep.specs.Reshaping.{widened_state, Reshapes};
 ghost use Rattle.jac_keep.specs.Schema.{IsSchema, IsFit};
-ghost use Rattle.jac_reopen.specs.Reopened.{seen_reopening, unopened_keeper, known_store, HasShapes};
+ghost use Rattle.jac_reopen.specs.Reopened.{seen_reopening, unopened_keeper, known_store, HasShapes, GivesUpAtFault};
+ghost use Rattle.jac_reopen.specs.GoesOn.{gives_up_at_fault};
 
 use crate::{KnownStore, ReopenedKeeper, VaultMaker};
-use jac_keep::{AttachFault, Change, Keeper, Stop, Vault};
-use jac_rows::Rows;
+use jac_keep::{AttachFault, Change, Keeper, Place, Stop, Vault};
+use jac_rows::{Row, Rows};
 use jac_value::{Id, Memory, Txt, Value};
 use std::alloc::Global;
 use std::marker::Model;
@@ -86,6 +87,7 @@ impl<M: VaultMaker> ReopeningKeeper<M> {
 
     // After a fault: where the store answers nothing more, it is closed, and opened again by the
     // next call.
+    #[tactic(auto, using(crate::proofs::Going::first_goes, crate::proofs::Going::closed_goes))]
     fn close_if_shut(&mut self)
         requires attached { IsTrue (seen_reopening M.Vault.Keeper.seen self.old).store.attached }
         requires first { self.old.again ≡ None }
@@ -93,6 +95,8 @@ impl<M: VaultMaker> ReopeningKeeper<M> {
             (seen_reopening M.Vault.Keeper.seen self.new) }
         ensures good { IsTrue (seen_reopening M.Vault.Keeper.seen self.new).tells
             → IsSound (seen_reopening M.Vault.Keeper.seen self.new).state }
+        ensures goes { GivesUpAtFault M.Vault.Keeper.seen M.Vault.Keeper.goes.holds self.old
+            self.new }
     {
         let Some(first) = &mut self.first else {
             unreachable!()
@@ -115,6 +119,7 @@ impl<M: VaultMaker> ReopeningKeeper<M> {
             (seen_reopening M.Vault.Keeper.seen self.new) }
         ensures good { IsTrue (seen_reopening M.Vault.Keeper.seen self.new).tells
             → IsSound (seen_reopening M.Vault.Keeper.seen self.new).state }
+        ensures kept { self.new.again ≡ None → self.new ≡ self.old }
     {
         let Some(spare) = self.spare.take() else {
             return;
@@ -131,15 +136,17 @@ impl<M: VaultMaker> ReopeningKeeper<M> {
 
 impl<M: VaultMaker> ReopeningKeeper<M> {
     /// As a vault's. A store that was opened again isn't brought to another schema.
-    #[tactic(auto, using(crate::proofs::Left::reshapes_then))]
+    #[tactic(auto, using(crate::proofs::Left::reshapes_then, crate::proofs::Going::first_goes, crate::proofs::Going::then_goes, crate::proofs::Going::again_goes))]
     pub fn reshape(&mut self, alloc: Global, change: &Change, schema: &Txt) -> Result<(), Stop>
         requires attached { IsTrue (seen_reopening M.Vault.Keeper.seen self.old).store.attached }
         requires schema { (shapes : List ModelShape) × IsSchema schema.now shapes
             × (IsTrue (seen_reopening M.Vault.Keeper.seen self.old).tells
             → IsFit shapes (widened_state (length shapes) (changed_state change.now
             (seen_reopening M.Vault.Keeper.seen self.old).state))) }
-        ensures { Reshapes (seen_reopening M.Vault.Keeper.seen self.old)
+        ensures reshapes { Reshapes (seen_reopening M.Vault.Keeper.seen self.old)
             (seen_reopening M.Vault.Keeper.seen self.new) change.now schema.now result }
+        ensures goes { GivesUpAtFault M.Vault.Keeper.seen M.Vault.Keeper.goes.holds self.old
+            self.new }
     {
         if let Some(again) = &mut self.again {
             return again.refuse();
@@ -183,7 +190,9 @@ fn spare_of<M: VaultMaker>(
 impl<M: VaultMaker> Keeper for ReopeningKeeper<M> {
     ghost seen = { seen_reopening M.Vault.Keeper.seen };
 
-    #[tactic(auto, using(crate::proofs::Left::reads_then))]
+    ghost goes = { gives_up_at_fault M.Vault.Keeper.seen M.Vault.Keeper.goes };
+
+    #[tactic(auto, using(crate::proofs::Left::reads_then, crate::proofs::Going::first_goes, crate::proofs::Going::then_goes, crate::proofs::Going::again_goes))]
     fn number(&mut self) -> Result<u64, Stop> {
         if let Some(again) = &mut self.again {
             return again.number();
@@ -201,7 +210,7 @@ impl<M: VaultMaker> Keeper for ReopeningKeeper<M> {
         }
     }
 
-    #[tactic(auto, using(crate::proofs::Left::reads_then))]
+    #[tactic(auto, using(crate::proofs::Left::reads_then, crate::proofs::Going::first_goes, crate::proofs::Going::then_goes, crate::proofs::Going::again_goes))]
     fn rows(&mut self, alloc: Global, model: u8) -> Result<Rows, Stop> {
         if let Some(again) = &mut self.again {
             return again.rows(alloc, model);
@@ -219,7 +228,7 @@ impl<M: VaultMaker> Keeper for ReopeningKeeper<M> {
         }
     }
 
-    #[tactic(auto, using(crate::proofs::Left::reads_then))]
+    #[tactic(auto, using(crate::proofs::Left::reads_then, crate::proofs::Going::first_goes, crate::proofs::Going::then_goes, crate::proofs::Going::again_goes))]
     fn one(&mut self, alloc: Global, id: Id) -> Result<Rows, Stop> {
         if let Some(again) = &mut self.again {
             return again.one(alloc, id);
@@ -237,7 +246,7 @@ impl<M: VaultMaker> Keeper for ReopeningKeeper<M> {
         }
     }
 
-    #[tactic(auto, using(crate::proofs::Left::reads_then))]
+    #[tactic(auto, using(crate::proofs::Left::reads_then, crate::proofs::Going::first_goes, crate::proofs::Going::then_goes, crate::proofs::Going::again_goes))]
     fn rows_with(
         &mut self,
         alloc: Global,
@@ -261,7 +270,63 @@ impl<M: VaultMaker> Keeper for ReopeningKeeper<M> {
         }
     }
 
-    #[tactic(auto, using(crate::proofs::Left::keeps_then, crate::proofs::Left::refused_then))]
+    #[tactic(auto, using(crate::proofs::Left::looks_then, crate::proofs::Going::first_goes, crate::proofs::Going::then_goes, crate::proofs::Going::again_goes))]
+    fn find(&mut self, id: Id) -> Result<Option<Place>, Stop> {
+        if let Some(again) = &mut self.again {
+            return again.find(id);
+        }
+        let Some(first) = &mut self.first else {
+            unreachable!()
+        };
+        match first.find(id) {
+            Ok(place) => Ok(place),
+            Err(Stop::Memory) => Err(Stop::Memory),
+            Err(Stop::Keeper) => {
+                self.close_if_shut();
+                Err(Stop::Keeper)
+            }
+        }
+    }
+
+    fn held(&self, id: Id, near: Place) -> Option<&[Row]> {
+        if let Some(again) = &self.again {
+            return again.held(id, near);
+        }
+        match &self.first {
+            Some(first) => first.held(id, near),
+            None => None,
+        }
+    }
+
+    #[tactic(auto, using(crate::proofs::Left::looks_then, crate::proofs::Going::first_goes, crate::proofs::Going::then_goes, crate::proofs::Going::again_goes))]
+    fn find_rows(&mut self, alloc: Global, model: u8) -> Result<bool, Stop> {
+        if let Some(again) = &mut self.again {
+            return again.find_rows(alloc, model);
+        }
+        let Some(first) = &mut self.first else {
+            unreachable!()
+        };
+        match first.find_rows(alloc, model) {
+            Ok(found) => Ok(found),
+            Err(Stop::Memory) => Err(Stop::Memory),
+            Err(Stop::Keeper) => {
+                self.close_if_shut();
+                Err(Stop::Keeper)
+            }
+        }
+    }
+
+    fn held_rows(&self, model: u8) -> Option<&[Row]> {
+        if let Some(again) = &self.again {
+            return again.held_rows(model);
+        }
+        match &self.first {
+            Some(first) => first.held_rows(model),
+            None => None,
+        }
+    }
+
+    #[tactic(auto, using(crate::proofs::Left::keeps_then, crate::proofs::Left::refused_then, crate::proofs::Going::first_goes, crate::proofs::Going::then_goes, crate::proofs::Going::again_goes))]
     fn apply(&mut self, alloc: Global, change: &Change) -> Result<(), Stop> {
         if let Some(again) = &mut self.again {
             return again.apply(alloc, change);

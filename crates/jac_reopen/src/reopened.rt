@@ -3,8 +3,8 @@ ghost use Rattle.jac_io.specs.Faults.{Rose};
 ghost use Rattle.jac_reopen.specs.Reopened.{seen_untold, HasShapes};
 
 use crate::{KnownStore, VaultMaker};
-use jac_keep::{Change, Keeper, Stop, Vault};
-use jac_rows::Rows;
+use jac_keep::{Change, Keeper, Place, Stop, Vault};
+use jac_rows::{Row, Rows};
 use jac_value::{Id, Value};
 use std::alloc::Global;
 use std::marker::Model;
@@ -153,6 +153,32 @@ impl<M: VaultMaker> Keeper for ReopenedKeeper<M> {
         let mut vault = self.take()?;
         let rows = vault.rows_with(alloc, model, field, value);
         self.put(vault, rows)
+    }
+
+    fn find(&mut self, id: Id) -> Result<Option<Place>, Stop> {
+        let mut vault = self.take()?;
+        let place = vault.find(id);
+        self.put(vault, place)
+    }
+
+    fn held(&self, id: Id, near: Place) -> Option<&[Row]> {
+        match &self.vault {
+            Some(vault) => vault.held(id, near),
+            None => None,
+        }
+    }
+
+    fn find_rows(&mut self, alloc: Global, model: u8) -> Result<bool, Stop> {
+        let mut vault = self.take()?;
+        let found = vault.find_rows(alloc, model);
+        self.put(vault, found)
+    }
+
+    fn held_rows(&self, model: u8) -> Option<&[Row]> {
+        match &self.vault {
+            Some(vault) => vault.held_rows(model),
+            None => None,
+        }
     }
 
     fn apply(&mut self, alloc: Global, change: &Change) -> Result<(), Stop> {
