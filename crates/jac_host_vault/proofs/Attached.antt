@@ -2,7 +2,7 @@
 use Rattle.std.proofs.Common.{◌≡◌, ◌||◌, refl, ℕ, ◌≤◌, Bool, true, false, true≢false, List, Option, Some, None, Result, Ok, Err, OnOk, OnErr, IsErrOf, IsTrue, IsSomeAnd, sym, ap, ◌∙◌, subst, arith}
 use Rattle.jac_io.specs.Faults.{Rose, one_more_fault}
 use Rattle.jac_keep.specs.Cause.{HasCause}
-use Rattle.jac_keep.specs.KeeperSeen.{KeeperSeen, Store, Keeps, Reads}
+use Rattle.jac_keep.specs.KeeperSeen.{KeeperSeen, Store, Keeps, Looks, Reads}
 use Rattle.jac_keep.specs.KeeperState.{KeeperState, seen_keeper}
 use Rattle.jac_keep.specs.Attaching.{Attaches, OpensStore, IsRefused}
 use Rattle.jac_keep.specs.Reshaping.{Reshapes, IsReshaped, IsUnshaped}
@@ -41,6 +41,17 @@ module _ (alone misnamed : Bool) (old new : KeeperState) where
     };
     good = λ told. reads.good refl;
     rose = λ is. rose_with misnamed old.faults new.faults (reads.rose is);
+  }
+
+  pub memory_looks : {T : Type 0} (result : Result T Stop) → Looks (seen_keeper old) (seen_keeper new) result → Looks (seen_memory alone misnamed old) (seen_memory alone misnamed new) result
+  memory_looks result looks = record {
+    left = record {
+      later = later_with misnamed old.faults new.faults looks.left.later;
+      told = tells_before alone old new looks.left.same_store;
+      same_state = λ told. looks.left.same_state refl;
+      same_store = ap (store_with misnamed) looks.left.same_store;
+    };
+    rose = λ is. rose_with misnamed old.faults new.faults (looks.rose is);
   }
 
   cause_with : {T : Type 0} (result : Result T Stop) → HasCause old.faults new.faults result → HasCause (faults_with misnamed old.faults) (faults_with misnamed new.faults) result

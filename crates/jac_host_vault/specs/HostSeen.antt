@@ -5,7 +5,7 @@ use Rattle.jac_keep.specs.KeeperSeen.{KeeperSeen, Store}
 use Rattle.jac_keep.specs.KeeperState.{KeeperState, seen_keeper}
 use Rattle.jac_sqlkeep.specs.Based.{Based}
 use Rattle.jac_sqlkeep.specs.Kept.{Kept, seen_kept}
-use Rattle.jac_reopen.specs.Reopened.{ReopenSeen, seen_reopening}
+use Rattle.jac_reopen.specs.Reopened.{ReopenSeen, seen_reopening, GoesAlong, GivesUpAtFault}
 
 -- the keeper in memory, and the one in a file, once that is the one that is called; whether it has
 -- memory alone, and was asked for a file nevertheless
@@ -60,3 +60,9 @@ abbrev pub IsStorePlaced : Option (List ℕ) → List ℕ → HostSeen → Type 
 IsStorePlaced None schema h = (h.file ≡ None) × IsTrue (seen_host h).tells
 IsStorePlaced (Some name) schema h = IsSomeAnd h.file (λ (f : ReopenSeen Kept).
     (f.again ≡ None) × IsSomeAnd f.first (IsFileOf schema))
+
+-- between two calls: a file stays what is called, and only a fault gives up the keeper that
+-- attached it, which goes on until then; memory stays, and what it is alone of
+pub record HostGoesOn (Goes : Kept → Kept → Type 0) (old new : HostSeen) : Type 0 where
+  pub file : GoesAlong (GivesUpAtFault seen_kept Goes) old.file new.file
+  pub alone : new.alone ≡ old.alone

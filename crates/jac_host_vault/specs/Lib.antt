@@ -1,1 +1,2 @@
 pub mod HostSeen
+pub mod GoesOn

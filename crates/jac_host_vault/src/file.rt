@@ -101,6 +101,8 @@ impl FileKeeper {
 impl Keeper for FileKeeper {
     ghost seen = { seen_kept };
 
+    ghost goes = { ⟦<SqlKeeper<FileOpener> as Keeper>⟧.goes };
+
     fn number(&mut self) -> Result<u64, Stop> {
         self.keeper.number()
     }

@@ -6,11 +6,11 @@ ghost use Rattle.jac_keep.specs.KeeperState.{IsStored, unattached_store};
 ghost use Rattle.jac_keep.specs.Schema.{IsSchema};
 ghost use Rattle.jac_host_vault.specs.HostSeen.{IsStorePlaced};
 
-use crate::FileMaker;
+use crate::{FileKeeper, FileMaker};
 use jac_io::Calls;
-use jac_keep::{AttachFault, Change, Keeper, MemoryKeeper, Stop, Vault};
+use jac_keep::{AttachFault, Change, Keeper, MemoryKeeper, Place, Stop, Vault};
 use jac_reopen::ReopeningKeeper;
-use jac_rows::{Rows, State};
+use jac_rows::{Row, Rows, State};
 use jac_value::{Id, Txt, Value};
 use std::alloc::Global;
 use std::marker::Model;
@@ -111,8 +111,11 @@ impl HostVault {
 
 impl Keeper for HostVault {
     ghost use Rattle.jac_host_vault.specs.HostSeen.{seen_host};
+    ghost use Rattle.jac_host_vault.specs.GoesOn.{host_goes_on};
 
     ghost seen = { seen_host };
+
+    ghost goes = { host_goes_on ⟦<FileKeeper as Keeper>⟧.goes };
 
     #[tactic(auto, using(crate::proofs::Attached::memory_reads))]
     fn number(&mut self) -> Result<u64, Stop> {
@@ -149,6 +152,36 @@ impl Keeper for HostVault {
         match &mut self.file {
             Some(file) => file.rows_with(alloc, model, field, value),
             None => self.memory.rows_with(alloc, model, field, value),
+        }
+    }
+
+    #[tactic(auto, using(crate::proofs::Attached::memory_looks))]
+    fn find(&mut self, id: Id) -> Result<Option<Place>, Stop> {
+        match &mut self.file {
+            Some(file) => file.find(id),
+            None => self.memory.find(id),
+        }
+    }
+
+    fn held(&self, id: Id, near: Place) -> Option<&[Row]> {
+        match &self.file {
+            Some(file) => file.held(id, near),
+            None => self.memory.held(id, near),
+        }
+    }
+
+    #[tactic(auto, using(crate::proofs::Attached::memory_looks))]
+    fn find_rows(&mut self, alloc: Global, model: u8) -> Result<bool, Stop> {
+        match &mut self.file {
+            Some(file) => file.find_rows(alloc, model),
+            None => self.memory.find_rows(alloc, model),
+        }
+    }
+
+    fn held_rows(&self, model: u8) -> Option<&[Row]> {
+        match &self.file {
+            Some(file) => file.held_rows(model),
+            None => self.memory.held_rows(model),
         }
     }
 
