@@ -11,4 +11,4 @@ returns-in_default g c w =
 pub returns : goal.returns
 returns g c w =
     assigned-some w c.args.name.now (at w c.args.value.now) (holds w c.args.pc.now) c.args.bindings.now.items c.in-Some.place c.index_mut-binding.result.now c.in_ok-changed.changed
-    (search rules) (search rules) (c.in_ok-changed.ensures w)
+    (search rules) (search rules) (c.in_ok-changed.ensures.at w)
