@@ -1,5 +1,6 @@
 pub mod Beginning
 pub mod Bound
+pub mod Buffering
 pub mod Going
 pub mod Growing
 pub mod Joining
@@ -12,3 +13,4 @@ pub mod Rows
 pub mod Running
 pub mod Working
 pub mod Chosen
+pub mod Lent

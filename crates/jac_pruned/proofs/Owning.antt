@@ -90,14 +90,10 @@ all_found : (p : Row → Bool) (b : Bool) (f : ℕ) (v : Value) (rows : List Row
 all_found p true f v rows h = h
 all_found p false f v rows h = all_with_id p (holds_cell f v rows) rows h
 
-all_valued : (p : Row → Bool) (models : List Entity) (m : ℕ) (f : Option ℕ) (v : Value) (rows : List Row) → list_all p rows ≡ true → list_all p (rows_with_value models m f v rows) ≡ true
+-- what holds of all rows holds of those of the records that have the value
+pub all_valued : (p : Row → Bool) (models : List Entity) (m : ℕ) (f : Option ℕ) (v : Value) (rows : List Row) → list_all p rows ≡ true → list_all p (rows_with_value models m f v rows) ≡ true
 all_valued p models m None v rows h = h
 all_valued p models m (Some f) v rows h = all_found p (equality.ghosts.eq (default_value (kind_at models (fields_at models m) f)) v) f v rows h
-
--- what holds of all rows holds of the wanted ones
-pub all_wanted : (p : Row → Bool) (models : List Entity) (m : ℕ) (o : Option Wanted) (rows : List Row) → list_all p rows ≡ true → list_all p (rows_wanted models m o rows) ≡ true
-all_wanted p models m None rows h = h
-all_wanted p models m (Some s) rows h = all_valued p models m (field_place (fields_at models m) s.field) s.value rows h
 
 module _ (P : Row → Type 0) where
   each_if : (b : Bool) (r : Row) (rows : List Row) → P r → AllByRecursion P rows → AllByRecursion P (if b then r ∷ rows else rows)

@@ -1,5 +1,6 @@
 pub mod Alike
 pub mod Begun
+pub mod Buffers
 pub mod Consulted
 pub mod Local
 pub mod Own

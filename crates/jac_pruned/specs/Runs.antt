@@ -2,16 +2,17 @@
 use Rattle.std.specs.Prelude.{◌≡◌, ℕ, Bool, true, false, List, [], ⊤}
 use Rattle.jac_lang.specs.declared.application.App.{App}
 use Rattle.jac_lang.specs.declared.bindings.Binding.{Binding}
-use Rattle.jac_lang.specs.Mirror.{application_of}
 use Rattle.jac_lang.specs.Syntax.{Statement, Statements}
 use Rattle.jac_rows.specs.Project.{project_at}
+use Rattle.jac_rows.specs.declared.plain.PlainRow.{PlainRow}
 use Rattle.jac_rows.specs.declared.state.State.{State}
 use Rattle.jac_world.specs.World.{shown_by}
 use Rattle.jac_plain.specs.declared.context.Ctx.{Ctx}
 use Rattle.jac_plain.specs.declared.page.Page.{Page}
 use Rattle.jac_plain.specs.declared.page.Piece.{Piece}
 use Rattle.jac_plain.specs.Requests.{page_of}
-use Rattle.jac_plain.specs.Statements.{Setting, Run, leaves_all, loop_of}
+use Rattle.jac_plain.specs.Statements.{Run, leaves_all}
+use Rattle.jac_pruned.specs.Buffers.{BufferSeen, buffer_for, buffer_of}
 use Rattle.jac_pruned.specs.Consulted.{Agrees}
 use Rattle.jac_pruned.specs.declared.world_context.WorldContext.{WorldContext}
 use Rattle.jac_pruned.specs.declared.progress.Progress.{Progress}
@@ -30,12 +31,28 @@ page_ran app ctx w s env body = page_of (leaves_all (setting_at app ctx w) body
 abbrev pub IsPageMade : Page → Type 0
 IsPageMade p = (pieces : List Piece) × (p ≡ page_of pieces)
 
--- under each assignment that agrees on the labels of the support, the run is what the step leaves
+-- what a run leaves, its pieces by what they come to
+pub record Left : Type 0 where
+  pub tables : List (List PlainRow)
+  pub env : List Binding
+  pub page : BufferSeen
+
+abbrev pub run_left : Run → Left
+run_left r = record { tables = r.tables; env = r.env; page = buffer_for r.pieces }
+
+-- the same of these bindings and this page, over the tables that an assignment shows of a state
+abbrev pub left_at : (ℕ → Bool) → State → List Binding → BufferSeen → Left
+left_at w s env page = record { tables = (project_at w s).tables; env = env; page = page }
+
+-- under each assignment that agrees on the labels of the support, the step leaves what is new,
+-- whatever pieces the page came from
 abbrev pub RunsShown : List ℕ → WorldContext → ((ℕ → Bool) → Run → Run) → State → Progress →
     Progress → Type 0
 RunsShown support at step s old new =
     (w : ℕ → Bool) → Agrees support (shown_by at.assignment.now) w
-    → run_in w s new.env.items new.pieces.items ≡ step w (run_in w s old.env.items old.pieces.items)
+    → (pieces : List Piece) → buffer_of old.page ≡ buffer_for pieces
+    → left_at w s new.env.items (buffer_of new.page)
+    ≡ run_left (step w (run_in w s old.env.items pieces))
 
 abbrev mutual
   -- the statement writes nothing

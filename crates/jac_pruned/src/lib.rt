@@ -9,7 +9,7 @@ mod candidate;
 mod choice;
 mod evaluation;
 mod order;
-mod pieces;
+mod page_buffer;
 mod presence;
 mod product;
 mod progress;

@@ -67,6 +67,12 @@ pub fn record_stands<K: Keeper>(
         → are_own_rows this id (rows_of (state_of K.seen work.old).tables (model_of_id id)) ≡ true
         → IsOwn this support.old → OnOk result (IsOwn this support.new) }
 {
+    if let Some(near) = work.look(id)? {
+        if let Some(rows) = work.looked(id, near) {
+            let found = has_row(work.alloc, rows, a, id, support)?;
+            return Ok(found);
+        }
+    }
     let rows = work.one(id)?;
     let found = has_row(work.alloc, rows.as_slice(), a, id, support)?;
     Ok(found)

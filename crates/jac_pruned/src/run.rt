@@ -1,6 +1,6 @@
 //! The run of statements that write nothing, in the world that an assignment shows, and its page.
 //! `execute` only looks at the form; each form is a function of its own.
-ghost use Rattle.std.specs.Prelude.{◌≡◌, ◌∷◌, [], ◌++◌, ℕ, Bool, true, None, IfOk, OnOk, IsTrue};
+ghost use Rattle.std.specs.Prelude.{◌≡◌, ℕ, Bool, true, None, IfOk, OnOk, IsTrue};
 ghost use Rattle.jac_world.specs.World.{shown_by};
 ghost use Rattle.jac_keep.specs.WorkState.{state_of, IsTold, ReadsWork};
 ghost use Rattle.jac_lang.specs.Mirror.{binders_of, expression_of, question_of, statement_of, statements_of};
@@ -16,12 +16,13 @@ use crate::Support;
 use crate::assignments::assign;
 use crate::binding::{bind_tuple, bind_value, loop_of};
 use crate::evaluation::{answers_at, eval};
-use crate::pieces::{add_missing, add_value};
+use crate::page_buffer::PageBuffer;
 use crate::progress::Progress;
+use crate::scope::text_at_hand;
 use crate::world_context::WorldContext;
 use jac_keep::{Keeper, Stop, Work};
 use jac_lang::{Binders, Expr, PlainEnv, Query, Stmt, Stmts};
-use jac_plain::{Ctx, Form, Page, is_true, page_of};
+use jac_plain::{Ctx, Page, is_true};
 use jac_value::{Ids, Txt, Value};
 
 /// The page of statements that write nothing, run from these bindings in the world that the
@@ -53,10 +54,11 @@ pub fn run_body_at<K: Keeper>(
     let outside = WorldContext { ctx: &ctx, ..*at };
     let mut run = Progress {
         env: env.into_vec(),
-        pieces: Vec::new(work.alloc),
+        page: PageBuffer::empty(work.alloc),
     };
     execute_all(work, &outside, &mut run, body, support)?;
-    let page = page_of(work.alloc, run.pieces.as_slice())?;
+    let Progress { env: _, page } = run;
+    let page = page.into_page(work.alloc)?;
     Ok(page)
 }
 
@@ -117,7 +119,7 @@ fn execute<K: Keeper>(
         Stmt::Update(_, _, _) => unreachable!(),
         Stmt::Delete(_, _) => unreachable!(),
         Stmt::Missing => {
-            add_missing(&mut run.pieces)?;
+            run.page.set_missing();
             Ok(())
         }
         Stmt::Redirect(e) => execute_redirect(work, at, run, e, support),
@@ -127,7 +129,7 @@ fn execute<K: Keeper>(
     }
 }
 
-// Adds the text of the value to the page.
+// Adds the text of the value to the page, from where it stands if it is at hand.
 fn execute_put<K: Keeper>(
     work: &mut Work<'_, K>,
     at: &WorldContext<'_>,
@@ -144,8 +146,34 @@ fn execute_put<K: Keeper>(
     ensures reads { ReadsWork K.seen work.old work.new result }
     ensures grows { Grows support.old support.new }
 {
+    match text_at_hand(run.env.as_slice(), e) {
+        Some(text) => {
+            run.page.add_bytes(text)?;
+            Ok(())
+        }
+        None => put_value(work, at, run, e, support),
+    }
+}
+
+// Adds the text of a value that is evaluated first.
+fn put_value<K: Keeper>(
+    work: &mut Work<'_, K>,
+    at: &WorldContext<'_>,
+    run: &mut Progress,
+    e: &Expr,
+    support: &mut Support,
+) -> Result<(), Stop>
+    requires attached { IsTrue (K.seen work.old.keeper.now).store.attached }
+    requires no_record { at.now.ctx.now.this ≡ None }
+    ensures left { IsTold K.seen work.new
+        → OnOk result (RunsShown support.new at.now
+        (λ w. leaves (setting_at at.now.app.now at.now.ctx.now w)
+        (Statement.put (expression_of e.now))) (state_of K.seen work.old) run.old run.new) }
+    ensures reads { ReadsWork K.seen work.old work.new result }
+    ensures grows { Grows support.old support.new }
+{
     let value = eval(work, at, run.env.as_slice(), e, support)?;
-    add_value(work.alloc, &mut run.pieces, &value, Form::Text)?;
+    run.page.add_text(work.alloc, &value)?;
     Ok(())
 }
 
@@ -167,7 +195,7 @@ fn execute_escape<K: Keeper>(
     ensures grows { Grows support.old support.new }
 {
     let value = eval(work, at, run.env.as_slice(), e, support)?;
-    add_value(work.alloc, &mut run.pieces, &value, Form::Escaped)?;
+    run.page.add_escaped(work.alloc, &value)?;
     Ok(())
 }
 
@@ -189,7 +217,7 @@ fn execute_redirect<K: Keeper>(
     ensures grows { Grows support.old support.new }
 {
     let value = eval(work, at, run.env.as_slice(), e, support)?;
-    add_value(work.alloc, &mut run.pieces, &value, Form::Location)?;
+    run.page.lead_to(work.alloc, value);
     Ok(())
 }
 

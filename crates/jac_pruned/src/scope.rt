@@ -1,9 +1,12 @@
-ghost use Rattle.std.specs.Prelude.{◌≡◌, IfOk};
+ghost use Rattle.std.specs.Prelude.{◌≡◌, IfOk, IfSome};
 ghost use Rattle.std.specs.Option.{option_copied};
-ghost use Rattle.jac_plain.specs.Expressions.{look};
+ghost use Rattle.jac_value.specs.Values.{value_text};
+ghost use Rattle.jac_lang.specs.Mirror.{expression_of};
+ghost use Rattle.jac_plain.specs.Expressions.{look, mean};
+ghost use Rattle.jac_plain.specs.World.{World};
 ghost use Rattle.jac_pruned.specs.Tupled.{bound_or_zero};
 
-use jac_lang::Binding;
+use jac_lang::{Binding, Expr};
 use jac_value::{Memory, Txt, Value};
 use std::alloc::Global;
 
@@ -17,6 +20,36 @@ pub(crate) fn look_up(alloc: Global, env: &[Binding], name: &Txt) -> Result<Valu
             Ok(value)
         }
         None => Ok(Value::Int(0)),
+    }
+}
+
+/// The text of an expression that is a text, or a name bound to one.
+pub(crate) fn text_at_hand<'e>(env: &'e [Binding], e: &'e Expr) -> Option<&'e [u8]>
+    ensures { IfSome result (λ t. (w : World)
+        → t.now ≡ value_text (mean w (expression_of e.now) env.now)) }
+{
+    match e {
+        Expr::Text(text) => Some(text.as_bytes()),
+        Expr::Name(name) => text_bound(env, name),
+        _ => None,
+    }
+}
+
+fn text_bound<'e>(env: &'e [Binding], name: &Txt) -> Option<&'e [u8]>
+    ensures { IfSome result (λ t. t.now ≡ value_text (look env.now name.now)) }
+{
+    match innermost(env, name) {
+        Some(value) => text_in(value),
+        None => None,
+    }
+}
+
+fn text_in(value: &Value) -> Option<&[u8]>
+    ensures { IfSome result (λ t. t.now ≡ value_text value.now) }
+{
+    match value {
+        Value::Text(text) => Some(text.as_bytes()),
+        _ => None,
     }
 }
 

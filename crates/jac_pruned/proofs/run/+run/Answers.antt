@@ -1,18 +1,20 @@
-use Rattle.std.proofs.Common.{◌≡◌, rules, ℕ, ◌+◌, List, Option, drop, subst}
-use Rattle.jac_lang.specs.Mirror.{binders_of, statements_of}
+use Rattle.std.proofs.Common.{◌≡◌, refl, ◌∙◌, ap, arith, rules, ◌+◌, ℕ, List, Option, drop, subst}
+use Rattle.jac_lang.specs.Mirror.{binders_of, question_of, statements_of}
 use Rattle.jac_keep.specs.WorkState.{state_of}
-use Rattle.jac_plain.specs.Expressions.{bound}
-use Rattle.jac_plain.specs.Statements.{for_each, leaves_all, scoped_run}
-use Rattle.jac_pruned.specs.Runs.{run_in}
+use Rattle.jac_plain.specs.declared.page.Piece.TheVariants as piece
+use Rattle.jac_plain.specs.Expressions.{answers, bound}
+use Rattle.jac_plain.specs.Statements.{for_each, leaves_all, world_of}
+use Rattle.jac_pruned.specs.Buffers.{buffer_of}
+use Rattle.jac_pruned.specs.Runs.{left_at, run_left, run_in}
 use Rattle.jac_pruned.proofs.Bound.{bound-is}
 use Rattle.jac_pruned.proofs.Growing.{agrees_less, grows_then}
-use Rattle.jac_pruned.proofs.Running.{from_same, scopes, tuple_more}
+use Rattle.jac_pruned.proofs.Running.{comes_first, for_all, piece_more, scopes, tuple_more, tuples_end}
 use Rattle.jac_pruned.proofs.Working.{next}
 use Rattle.jac_pruned.proofs.run.+run.Goals as goal
-use Rattle.jac_plain.specs.Shown.{setting_around, setting_at}
+use Rattle.jac_plain.specs.Shown.{setting_around, setting_at, world_at}
 
 pub execute_bound-returns-clause-left : goal.execute_bound-returns-clause-left
-execute_bound-returns-clause-left g t c told w agree =
+execute_bound-returns-clause-left g t c told w agree pieces is =
     let app = c.args.at.now.app.now in
     let ctx = c.args.at.now.ctx.now in
     let body = statements_of c.args.body.now in
@@ -20,14 +22,29 @@ execute_bound-returns-clause-left g t c told w agree =
     let state = state_of g.K.Keeper.seen c.args.work.now in
     let env = c.args.run.now.env.items in
     let bs = binders_of c.args.binders.now in
-    let ran : run_in w state c.execute_all.new.run.env.items c.execute_all.new.run.pieces.items
-    ≡ leaves_all (setting_around app ctx ids w) body (run_in w state c.bind_tuple.new.env.items c.args.run.now.pieces.items) =
-    subst (λ (around : Option ℕ). run_in w state c.execute_all.new.run.env.items c.execute_all.new.run.pieces.items
-    ≡ leaves_all (record (setting_at app ctx w) { around = around }) body (run_in w state c.bind_tuple.new.env.items c.args.run.now.pieces.items))
-    c.loop_of.ensures (c.in_ok-execute_all.ensures.left told w agree) in
-    scopes (leaves_all (setting_around app ctx ids w) body) w state env (bound bs ids env) c.bind_tuple.new.env.items c.execute_all.new.run.env.items
-    c.truncate.new.self.items c.len-outer.result c.args.run.now.pieces.items c.execute_all.new.run.pieces.items
-    (bound-is bs ids env c.bind_tuple.new.env.items c.in_ok-bind_tuple.ensures) (search rules) c.truncate.ensures.items ran
+    let left = c.execute_all.new.run.env.items in
+    let page = buffer_of c.execute_all.new.run.page in
+    let inner = c.bind_tuple.new.env.items in
+    let ran : left_at w state left page ≡ run_left (leaves_all (setting_around app ctx ids w) body (run_in w state inner pieces)) =
+    subst (λ (around : Option ℕ). left_at w state left page
+    ≡ run_left (leaves_all (record (setting_at app ctx w) { around = around }) body (run_in w state inner pieces)))
+    c.loop_of.ensures (c.in_ok-execute_all.ensures.left told w agree pieces is) in
+    scopes (leaves_all (setting_around app ctx ids w) body) w state env (bound bs ids env) inner left
+    c.truncate.new.self.items c.len-outer.result page pieces
+    (bound-is bs ids env inner c.in_ok-bind_tuple.ensures) (search rules) c.truncate.ensures.items ran
+
+pub execute_tuples-tuples-init : goal.execute_tuples-tuples-init
+execute_tuples-tuples-init g t c = record {
+  grown = search rules;
+  read = record {
+    told = λ told w agree pieces is.
+        let s = state_of g.K.Keeper.seen c.args.work.now in
+        comes_first w s c.args.run.now.env.items (buffer_of c.args.run.now.page) pieces
+        (for_each (binders_of c.args.binders.now)
+        (λ (ids : List ℕ). leaves_all (setting_around c.args.at.now.app.now c.args.at.now.ctx.now ids w) (statements_of c.args.body.now)) c.args.tuples.now) is;
+    same = search rules;
+  };
+}
 
 pub execute_tuples-tuples-preserved : goal.execute_tuples-tuples-preserved
 execute_tuples-tuples-preserved g t c =
@@ -38,20 +55,52 @@ execute_tuples-tuples-preserved g t c =
     record {
       grown = grows_then _ _ _ before.grown c.in_ok-execute_bound.ensures.grows;
       read = record {
-        told = λ told w agree.
+        told = λ told w agree pieces is.
             let before_told = c.in_ok-execute_bound.ensures.reads.same.told told in
             let bs = binders_of c.args.binders.now in
             let body = λ (ids : List ℕ). leaves_all (setting_around c.args.at.now.app.now c.args.at.now.ctx.now ids w) (statements_of c.args.body.now) in
             let start = state_of g.K.Keeper.seen c.args.work.now in
-            let env = c.tuples.run.env.items in
-            let pieces = c.tuples.run.pieces.items in
-            let env2 = c.execute_bound.new.run.env.items in
-            let pieces2 = c.execute_bound.new.run.pieces.items in
-            tuple_more bs body ids (drop i tuples) (drop (i + 1) tuples) (run_in w start env pieces) (run_in w start env2 pieces2)
-            (for_each bs body tuples (run_in w start c.args.run.now.env.items c.args.run.now.pieces.items)) (next tuples ids i c.ids-item.is c.tuples-test.true)
-            (from_same (scoped_run (bound bs ids env) (body ids)) w start (state_of g.K.Keeper.seen c.tuples.work) env env2 pieces pieces2
-            (before.read.same.same_state before_told) (c.in_ok-execute_bound.ensures.left told w agree))
-            (before.read.told before_told w (agrees_less _ _ _ _ c.in_ok-execute_bound.ensures.grows agree));
+            tuple_more bs body ids (drop i tuples) (drop (i + 1) tuples) (for_each bs body tuples (run_in w start c.args.run.now.env.items pieces)) w
+            (state_of g.K.Keeper.seen c.tuples.work) start c.tuples.run.env.items c.execute_bound.new.run.env.items
+            (buffer_of c.tuples.run.page) (buffer_of c.execute_bound.new.run.page)
+            (next tuples ids i c.ids-item.is c.tuples-test.true) (before.read.same.same_state before_told)
+            (c.in_ok-execute_bound.ensures.left told w agree)
+            (before.read.told before_told w (agrees_less _ _ _ _ c.in_ok-execute_bound.ensures.grows agree) pieces is);
         same = search rules;
       };
     }
+
+pub execute-returns-in-Let-clause-left : goal.execute-returns-in-Let-clause-left
+execute-returns-in-Let-clause-left g t c = λ told. rw c.in-Let.is (c.execute_let.ensures.left told)
+
+pub execute-returns-in-Missing-clause-left : goal.execute-returns-in-Missing-clause-left
+execute-returns-in-Missing-clause-left g t c told w agree pieces is =
+    rw c.in-Missing.is (piece_more w (state_of g.K.Keeper.seen c.args.work.now) c.args.run.now.env.items (buffer_of c.args.run.now.page) (buffer_of c.set_missing.new.self) pieces
+    piece.Missing piece.Missing is c.set_missing.ensures refl)
+
+pub execute_for-returns-clause-left : goal.execute_for-returns-clause-left
+execute_for-returns-clause-left g t c told w agree pieces is =
+    let before = c.in_ok-execute_tuples.ensures.reads.same.told told in
+    let app = c.args.at.now.app.now in
+    let ctx = c.args.at.now.ctx.now in
+    let q = question_of c.args.query.now in
+    let env = c.args.run.now.env.items in
+    let s = state_of g.K.Keeper.seen c.args.work.now in
+    for_all q.binders (λ (ids : List ℕ). leaves_all (setting_around app ctx ids w) (statements_of c.args.body.now)) w
+    (state_of g.K.Keeper.seen c.answers_at.new.work) s env c.execute_tuples.new.run.env.items (buffer_of c.execute_tuples.new.run.page) pieces
+    c.as_slice-answers.result.now (answers (world_of (setting_at app ctx w) (run_in w s env pieces)) q env)
+    (c.in_ok-answers.ensures.reads.same.same_state before)
+    (c.as_slice-answers.ensures.value
+    ∙ c.in_ok-answers.ensures.answers before w (agrees_less _ _ _ _ c.in_ok-execute_tuples.ensures.grows agree)
+    ∙ ap (answers (world_at app ctx s w) q) c.as_slice.ensures.value
+    ∙ ap (λ (this : Option ℕ). answers (record (world_at app ctx s w) { this = this }) q env) c.requires.no_record)
+    (c.in_ok-execute_tuples.ensures.left told w agree pieces is)
+
+pub execute_tuples-returns-clause-left : goal.execute_tuples-returns-clause-left
+execute_tuples-returns-clause-left g t c told w agree pieces is =
+    let bs = binders_of c.args.binders.now in
+    let body = λ (ids : List ℕ). leaves_all (setting_around c.args.at.now.app.now c.args.at.now.ctx.now ids w) (statements_of c.args.body.now) in
+    let start = state_of g.K.Keeper.seen c.args.work.now in
+    tuples_end bs body c.args.tuples.now c.tuples.ids-index (left_at w start c.tuples.run.env.items (buffer_of c.tuples.run.page))
+    (for_each bs body c.args.tuples.now (run_in w start c.args.run.now.env.items pieces)) (omega arith)
+    (c.tuples.invariant.read.told told w agree pieces is)

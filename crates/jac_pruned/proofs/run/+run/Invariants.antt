@@ -6,7 +6,10 @@ use Rattle.jac_world.specs.World.{shown_by}
 use Rattle.jac_keep.specs.WorkState.{state_of}
 use Rattle.jac_plain.specs.Statements.{for_each, leaves_all}
 use Rattle.jac_pruned.specs.Consulted.{Agrees, Grows}
-use Rattle.jac_pruned.specs.Runs.{run_in, AreReading}
+use Rattle.jac_plain.specs.declared.page.Piece.{Piece}
+use Rattle.jac_pruned.specs.Buffers.{buffer_for, buffer_of}
+use Rattle.jac_pruned.specs.Runs.{left_at, run_in, AreReading}
+use Rattle.jac_pruned.proofs.Running.{Comes}
 use Rattle.jac_pruned.proofs.Working.{LoopOver}
 use Rattle.jac_pruned.proofs.run.+run.Given as goal
 use Rattle.jac_plain.specs.Shown.{setting_around, setting_at}
@@ -20,10 +23,11 @@ invariant-execute_all-body g l =
       reading : AreReading (statements_of l.left);
       grown : Grows l.fn.support l.support;
       read : LoopOver k.seen l.fn.work l.work
-          ((w : ℕ → Bool) → Agrees l.support (shown_by l.at.assignment.now) w →
+          ((w : ℕ → Bool) → Agrees l.support (shown_by l.at.assignment.now) w → (pieces : List Piece) → buffer_of l.fn.run.page ≡ buffer_for pieces →
           let setting = setting_at l.at.app.now l.at.ctx.now w in
           let s = state_of k.seen l.fn.work in
-          leaves_all setting (statements_of l.left) (run_in w s l.run.env.items l.run.pieces.items) ≡ leaves_all setting (statements_of l.stmts) (run_in w s l.fn.run.env.items l.fn.run.pieces.items));
+          Comes (left_at w s l.run.env.items (buffer_of l.run.page)) (leaves_all setting (statements_of l.left))
+          (leaves_all setting (statements_of l.stmts) (run_in w s l.fn.run.env.items pieces)));
     }
 
 -- what the tuples that are left leave from here, all leave from the start
@@ -33,11 +37,12 @@ invariant-execute_tuples-tuples g l =
     record {
       grown : Grows l.fn.support l.support;
       read : LoopOver k.seen l.fn.work l.work
-          ((w : ℕ → Bool) → Agrees l.support (shown_by l.at.assignment.now) w →
+          ((w : ℕ → Bool) → Agrees l.support (shown_by l.at.assignment.now) w → (pieces : List Piece) → buffer_of l.fn.run.page ≡ buffer_for pieces →
           let body = λ (ids : List ℕ). leaves_all (setting_around l.at.app.now l.at.ctx.now ids w) (statements_of l.body) in
           let bs = binders_of l.binders in
           let s = state_of k.seen l.fn.work in
-          for_each bs body (drop l.ids-index l.tuples) (run_in w s l.run.env.items l.run.pieces.items) ≡ for_each bs body l.tuples (run_in w s l.fn.run.env.items l.fn.run.pieces.items));
+          Comes (left_at w s l.run.env.items (buffer_of l.run.page)) (for_each bs body (drop l.ids-index l.tuples))
+          (for_each bs body l.tuples (run_in w s l.fn.run.env.items pieces)));
     }
 
 abbrev pub decreases-execute_all : goal.decreases-execute_all
