@@ -4,7 +4,7 @@ use jac_check::check;
 use jac_forms::{FormFault, Want, app_of};
 use jac_lang::App;
 use jac_template::{TemplateFault, escape, expand};
-use jac_tree::{Tree, print_tree, read_tree};
+use jac_tree::{Tree, nests_within, print_tree, read_tree};
 use jac_unparse::tree_of;
 use jac_value::{Bytes, Txt};
 use std::alloc::Global;
@@ -29,6 +29,9 @@ pub(crate) fn app(alloc: Global, text: &str) -> Option<App> {
 // The text that an application is written as.
 fn written(alloc: Global, app: &App) -> Option<Bytes> {
     let tree = tree_of(alloc, app).ok()?;
+    if !nests_within(&tree, 64) {
+        return None;
+    }
     print_tree(alloc, &tree).ok()
 }
 

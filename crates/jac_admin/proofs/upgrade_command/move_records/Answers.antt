@@ -16,5 +16,5 @@ returns-clause-upgraded g c =
     (upgraded_if_done (application_of c.args.old.now) (application_of c.args.new.now) (K.seen c.args.vault.now)
     (K.seen c.upgrade.new.keeper) c.in_ok-change.change c.in_ok-schema.schema c.in_ok-change.ensures.left
     c.in_ok-schema.ensures.text c.in_ok-schema.ensures.schema (rw c.app-2.ensures.app at c.in_ok-change.ensures.fit)
-    (K.seen c.reshape.new.self) c.in_ok-reshape.ensures c.in_ok-change.ensures.names
+    (K.seen c.reshape.new.self) c.in_ok-reshape.ensures.reshapes c.in_ok-change.ensures.names
     (rw (c.app.ensures.app, c.app-2.ensures.app) at c.in_ok-change.ensures.shows))
