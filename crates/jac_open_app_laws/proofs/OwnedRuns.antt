@@ -17,7 +17,8 @@ use Rattle.jac_plain.specs.declared.page.Piece.{Piece}
 use Rattle.jac_plain.specs.declared.page.Piece.TheVariants as piece
 use Rattle.jac_plain.specs.Expressions.{mean, answers, answers_by, bound, binding, bytes_of, is_true}
 use Rattle.jac_plain.specs.Records.{drafted_cells, default_cells, plain_row, is_hidden_by, every_field, is_set, changed_rows, without, tables_after}
-use Rattle.jac_plain.specs.Statements.{Setting, Run, with_piece, html, scoped_run, with_value, choose, for_each, loop_of, id_made, is_kept, tables_made, with_made, created_cells, create_run, updated_cells, update_run, delete_run, leaves, leaves_all}
+use Rattle.jac_value.specs.Html.{html}
+use Rattle.jac_plain.specs.Statements.{Setting, Run, with_piece, scoped_run, with_value, choose, for_each, loop_of, id_made, is_kept, tables_made, with_made, created_cells, create_run, updated_cells, update_run, delete_run, leaves, leaves_all}
 use Rattle.jac_plain.specs.Requests.{Visit, Worlds, body_in, method_in, run_of, after_by, after}
 use Rattle.jac_open_app_laws.specs.Open.{is_open, is_open_order, masked_cells}
 use Rattle.jac_open_app_laws.specs.Owned.{AgreeOfRecord, IsOwned, AreOwnedTables, DependOnOwn, HideNothing, are_open_sets, reads_openly, read_openly, stores_openly, is_stored_openly}
