@@ -16,7 +16,7 @@
 
  (view get "/list" (params)
   (for (from ((e Event)) true (up e title))
-   (put (get Event title e)) (put "\n")))
+   (esc (get Event title e)) (put "\n")))
 
  (view post "/note" (params)
   (if (some (from ((e Event)) (eq (get Event title e) "raid") key))
@@ -24,7 +24,7 @@
    ((put "nothing to note"))))
 
  (view get "/notes" (params)
-  (for (from ((n Note)) true key) (put (get Note body n)) (put "\n")))
+  (for (from ((n Note)) true key) (esc (get Note body n)) (put "\n")))
 
  (view post "/rename" (params (event (ref Event)) (title text))
   (if (and (live viewer) (eq (get Event host event) viewer))

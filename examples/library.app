@@ -13,30 +13,30 @@
 
  (view post "/lend" (params (book (ref Book)) (reader (ref Reader)))
   (create l Loan (set (book book) (reader reader))
-   (put (get Book title (get Loan book l)))))
+   (esc (get Book title (get Loan book l)))))
 
  (view get "/readers" (params)
   (for (from ((r Reader)) true (up r name))
-   (put (get Reader name r)) (put ": ")
+   (esc (get Reader name r)) (put ": ")
    (put (count (from ((l Loan)) (eq (get Loan reader l) r) key))) (put " for ")
    (put (sum (from ((l Loan)) (eq (get Loan reader l) r) key) (get Book cents (get Loan book l))))
    (put "\n")))
 
  (view get "/dearest" (params)
-  (put (get Book title (first (from ((b Book)) true (down b cents))))))
+  (esc (get Book title (first (from ((b Book)) true (down b cents))))))
 
  (view get "/free" (params)
   (for (from ((b Book)) (not (some (from ((l Loan)) (eq (get Loan book l) b) key))) key)
-   (put (get Book title b)) (put "\n")))
+   (esc (get Book title b)) (put "\n")))
 
  (view get "/lent" (params)
   (for (from ((r Reader) (b Book))
         (some (from ((l Loan)) (and (eq (get Loan reader l) r) (eq (get Loan book l) b)) key))
         (down b cents))
-   (put (get Reader name r)) (put " has ") (put (get Book title b)) (put "\n")))
+   (esc (get Reader name r)) (put " has ") (esc (get Book title b)) (put "\n")))
 
  (view get "/cheaper" (params (than (ref Book)))
   (for (from ((b Book) (c Book))
         (and (lt (get Book cents b) (get Book cents c)) (or (eq than c) (not (live than))))
         key)
-   (put (get Book title b)) (put " < ") (put (get Book title c)) (put "\n"))))
+   (esc (get Book title b)) (put " < ") (esc (get Book title c)) (put "\n"))))

@@ -7,4 +7,4 @@
 
  (view get "/all" (params)
   (for (from ((u User)) true key)
-   (put (get User name u)) (put " of ") (put (get User town u)) (put "\n"))))
+   (esc (get User name u)) (put " of ") (esc (get User town u)) (put "\n"))))

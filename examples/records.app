@@ -8,8 +8,13 @@
     (and (live viewer)
      (or (eq (get Record patient this) viewer) (eq (get Record author this) viewer))))))
 
- (view post "/join" (params (name text) (doctor bool))
-  (create p Person (set (name name) (doctor doctor)) (put p)))
+ (view post "/join" (params (name text))
+  (create p Person (set (name name)) (put p)))
+
+ (view post "/person/{id}/doctor" (params (id (ref Person)))
+  (if (or (get Person doctor viewer) (not (some (from ((p Person)) (get Person doctor p) key))))
+   ((update Person id (set (doctor true))) (esc (get Person name id)) (put " is a doctor"))
+   ((missing) (put "only doctors say who is one"))))
 
  (view post "/person/{id}/records" (params (id (ref Person)) (day text) (words text))
   (if (and (live id) (get Person doctor viewer))
@@ -24,10 +29,10 @@
  (view get "/" (params)
   (put (count (from ((r Record)) true key))) (put " records\n")
   (for (from ((r Record)) true (down r day))
-   (put (get Record day r)) (put " ") (put (get Person name (get Record patient r))) (put ": ")
-   (put (get Record words r)) (put "\n")))
+   (esc (get Record day r)) (put " ") (esc (get Person name (get Record patient r))) (put ": ")
+   (esc (get Record words r)) (put "\n")))
 
  (view get "/record/{id}" (params (id (ref Record)))
   (if (live id)
-   ((put (get Record words id)))
+   ((esc (get Record words id)))
    ((missing) (put "no such record")))))

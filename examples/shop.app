@@ -10,7 +10,7 @@
 
  (view get "/bill" (params (discount int))
   (for (from ((i Item)) true key)
-   (put (get Item pieces i)) (put " x ") (put (get Item name i)) (put ": ")
+   (put (get Item pieces i)) (put " x ") (esc (get Item name i)) (put ": ")
    (put (sub (mul (get Item cents i) (get Item pieces i)) discount))
    (put (pick (and (lt 9 (get Item pieces i)) (not (eq discount 0))) ", many and cheap" ""))
    (put "\n"))))
