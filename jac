@@ -71,22 +71,23 @@ refuse_a_pipe() {
     fi
 }
 
-# A command that ends by itself. Where it refuses its words, an application or a store, standard error says which word, and
-# has the place, with a mark under it, or the first difference.
+# A command that ends by itself. Where it refuses its words, a file or a store, standard error says which word, has the
+# place, with a mark under it, or the first difference, or says what the store is.
 run_to_end() {
     [ -z "${JAC_PROVED-}" ] || exec "${command[@]}" "$@"
     local status=0
     "${command[@]}" "$@" || status=$?
-    case $status in 1 | 2 | 9 | 11) put_finger "$@" ;; esac
+    case $status in 1 | 2 | 3 | 6 | 9 | 11) show_place --status $status "$program" "$@" ;; esac
     exit $status
 }
 
-put_finger() {
-    python3 "$top/tools/finger.py" "$program" "$@" || true
+show_place() {
+    python3 "$top/tools/fault_place.py" "$@" || true
 }
 
 [ "${1-} ${2-}" != 'walk --help' ] || exec python3 "$top/tools/walk.py" --help
 [ "${1-} ${2-}" != 'dev --help' ] || exec python3 "$top/tools/dev.py" '' --help
+[ "${1-}" != lint ] || exec python3 "$top/tools/lint.py" "${@:2}"
 case ${1-} in dev | dump | replay | serve | upgrade | why) refuse_a_pipe "$@" ;; esac
 choose
 choose_command "$@"
@@ -98,7 +99,7 @@ case ${1-} in
         ;;
     check | replay | dump | demo | why) run_to_end "$@" ;;
     serve)
-        [ -n "${JAC_PROVED-}" ] || put_finger "$@"
+        [ -n "${JAC_PROVED-}" ] || show_place "$program" "$@"
         exec "${command[@]}" "$@"
         ;;
     walk)

@@ -10,11 +10,11 @@ import sys
 import tempfile
 
 sys.dont_write_bytecode = True
-import proved                                                               # noqa: E402
-from serving import served                                                  # noqa: E402
+from support import proved                                                  # noqa: E402
+from support.serving import served                                          # noqa: E402
 
 TOP = os.path.dirname(os.path.dirname(os.path.abspath(__file__)))
-PROGRAM = proved.binary(sys.argv[1])
+PROGRAM = proved.binary(proved.first_word())
 TOOL = os.path.join(TOP, 'tools', 'access_matrix.py')
 
 APP = '''(app (viewer User)

@@ -22,9 +22,9 @@ import threading
 import time
 import urllib.request
 
-import installed
-import proved
-from serving import HOST, served
+from support import installed
+from support import proved
+from support.serving import HOST, served
 
 TOP = os.path.dirname(os.path.dirname(os.path.abspath(__file__)))
 PROGRAM = PICTURES = None
@@ -429,7 +429,7 @@ def in_turn(program, folder):
 
 def main():
     global PROGRAM, PICTURES
-    PROGRAM = proved.program(sys.argv[1])
+    PROGRAM = proved.program(proved.first_word())
     PICTURES = os.path.abspath(sys.argv[2]) if len(sys.argv) > 2 else None
     installed.need(NAMES)
     found, results = installed.find(*NAMES), []

@@ -22,7 +22,7 @@ import subprocess
 import sys
 import tempfile
 
-import proved
+from support import proved
 
 FOLDER = os.path.join(os.path.dirname(os.path.abspath(__file__)), 'cases')
 CUT = ', no last line feed'
@@ -96,7 +96,7 @@ def failures(program, text):
 
 
 def main():
-    program = proved.program(sys.argv[1])
+    program = proved.program(proved.first_word())
     names = [name for name in sorted(os.listdir(FOLDER)) if not sys.argv[2:] or any(w in name for w in sys.argv[2:])]
     failed = 0
     for name in names:

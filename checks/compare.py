@@ -1,5 +1,5 @@
 #!/usr/bin/env python3
-"""Compares the built program with the second interpreter of checks/second.py, over random applications and random events.
+"""Compares the built program with the second interpreter of checks/reference_interpreter.py, over random applications and random events.
 Words: the program, how many applications or, with an `s` behind it, for how many seconds, and the first one's seed, where it
 isn't to be the time. Of each request: the status, the
 location and the body are those of the ordinary interpreter in the world that the audited labels show, and these labels are
@@ -16,8 +16,8 @@ import tempfile
 import time
 import urllib.parse
 
-import proved
-from second import App, Store, pairs_of, read_parameter, text_of
+from support import proved
+from reference_interpreter import App, Store, pairs_of, read_parameter, text_of
 
 MOST_LABELS = 7
 TEXTS = b'', b'a', b'b', b'ab', b'<x>', b'"', b'a\\b', 'é'.encode()
@@ -586,7 +586,7 @@ def dumped(cell):
 
 
 def main():
-    program, word = proved.program(sys.argv[1]), sys.argv[2]
+    program, word = proved.program(proved.first_word()), sys.argv[2]
     most, seconds = (None, float(word[:-1])) if word.endswith('s') else (int(word), None)
     began, count, requests, wrong = time.monotonic(), 0, 0, 0
     seed = int(sys.argv[3]) if len(sys.argv) > 3 else int(time.time()) * 1000

@@ -1,7 +1,7 @@
 #!/usr/bin/env python3
 """Serves the calendar through nginx with the files of deploy/: TLS, accounts and passwords, cookies that are forged,
 forms of other sites, pages of the site in place of errors, several applications, an audit that is rotated, backups, a
-standby, a port that is handed over, and 20 restarts under requests. Words: the program. Prints each case that fails,
+standby, a port that is handed over, 20 restarts under requests, and what the journal is told of an end. Words: the program. Prints each case that fails,
 and ends with a count. What isn't installed is left out, and that is said.
 
 With --load it also serves 32 and 300 clients for some minutes, beside other work: no request may fail. Without it that
@@ -23,11 +23,11 @@ import threading
 import time
 
 sys.dont_write_bytecode = True
-import proved                                                                   # noqa: E402
-from fronts import (CALENDAR, DEPLOY, HOST_NAME, PASSWORDS, TOP, Client, Service, Skipped, account,  # noqa: E402
+from support import proved                                                  # noqa: E402
+from support.fronts import (CALENDAR, DEPLOY, HOST_NAME, PASSWORDS, TOP, Client, Service, Skipped, account,  # noqa: E402
                     add_accounts, certify, close, expect, placed, plain, read, report, secured, service, settle,
                     shows, site_files, unit_line, until, write)
-from serving import free_port, is_listening                                     # noqa: E402
+from support.serving import free_port, is_listening                         # noqa: E402
 
 STYLE = 'body { color: #223 }\n'
 MAIN = '''%s daemon off;
@@ -140,6 +140,54 @@ def units(program):
                                   stdout=subprocess.PIPE, stderr=subprocess.STDOUT, text=True)
             told = [line for line in done.stdout.splitlines() if folder in line or os.path.basename(unit) in line]
             yield expect('systemd on ' + name, (done.returncode, told), (0, []))
+
+
+def explanations(program):
+    """What the units run once a service ended: the words are those of its start, and the journal is told why, once a
+    minute."""
+    for unit in ('jac.service', 'jac@.service'):
+        starts, ends = (re.findall(r'(?m)^%s=(.*)$' % name, read(DEPLOY, unit)) for name in ('ExecStart', 'ExecStopPost'))
+        yield expect('the words of ' + unit, ends, ['-/usr/local/lib/jac/explain.py ' + line for line in starts])
+    with tempfile.TemporaryDirectory() as folder:
+        write('(app (model User (fields (name text))))', folder, 'app')
+        write('', folder, 'sessions')
+        subprocess.run([program, 'replay', 'app', 'sessions', '--db', 'store.db'], cwd=folder, check=True)
+        write('(app (model User (fields (name text) (age int))))', folder, 'app')
+        end = Ended(folder, program)
+        yield expect('another schema', 'in %s/app the field age of User is new. ./jac upgrade' % folder in end.told('9'), True)
+        yield expect('the same within a minute', end.told('9'), '')
+        write('ann 4096\nbob\n', folder, 'sessions')
+        yield expect('a line of the sessions', end.told('3').startswith('%s/sessions:2:3: the viewer is' % folder), True)
+        os.utime(os.path.join(folder, 'explained'), (0, 0))
+        yield expect('the same after a minute', end.told('3') != '', True)
+        for status, code in (('0', 'exited'), ('TERM', 'killed'), ('9', 'killed')):
+            yield expect('an end by %s, %s' % (code, status), end.told(status, code), '')
+        write('no store\n' * 99, folder, 'store.db')
+        yield expect('a store fault', 'store.db is no database of SQLite' in end.told('6'), True)
+        yield expect('beside it', sorted(os.listdir(folder)), ['app', 'explained', 'lib', 'sessions', 'store.db'])
+
+
+class Ended:
+    """explain.py as a machine has it, beside the tools, and run as the unit runs it."""
+
+    def __init__(self, folder, program):
+        self.folder = folder
+        self.lib = os.path.join(folder, 'lib')
+        os.makedirs(os.path.join(self.lib, 'tools'))
+        shutil.copy(os.path.join(DEPLOY, 'explain.py'), self.lib)
+        for name in os.listdir(os.path.join(TOP, 'tools')):
+            if name.endswith('.py'):
+                shutil.copy(os.path.join(TOP, 'tools', name), os.path.join(self.lib, 'tools'))
+        self.words = unit_line('jac.service', [
+            ('/usr/local/bin/jac', program), ('/etc/jac/calendar/', folder + '/'), ('/var/lib/jac/calendar/', folder + '/'),
+            ('/var/log/jac/calendar/', folder + '/')])
+
+    def told(self, status, code='exited'):
+        """What is said in the journal after an end of this kind."""
+        done = subprocess.run([os.path.join(self.lib, 'explain.py'), *self.words], cwd=self.folder, text=True,
+                              stdin=subprocess.DEVNULL, stdout=subprocess.PIPE, stderr=subprocess.STDOUT,
+                              env={**os.environ, 'EXIT_CODE': code, 'EXIT_STATUS': status, 'RUNTIME_DIRECTORY': self.folder})
+        return done.stdout
 
 
 def refusals(folder):
@@ -775,7 +823,8 @@ def main():
     reader.add_argument('--load', action='store_true', help='also some minutes of 32 and of 300 clients')
     words = reader.parse_args()
     program = proved.program(words.program)
-    parts = units(program), accounts(program), guarded_names(program), through_nginx(program, words.load)
+    parts = (units(program), explanations(program), accounts(program), guarded_names(program),
+             through_nginx(program, words.load))
     report(result for part in parts for result in part)
 
 

@@ -17,11 +17,11 @@ import time
 import urllib.parse
 
 sys.dont_write_bytecode = True
-import proved                                                               # noqa: E402
-from serving import HOST, free_port, is_listening                           # noqa: E402
+from support import proved                                                  # noqa: E402
+from support.serving import HOST, free_port, is_listening                   # noqa: E402
 
 TOP = os.path.dirname(os.path.dirname(os.path.abspath(__file__)))
-PROGRAM = proved.binary(sys.argv[1])
+PROGRAM = proved.binary(proved.first_word())
 DEV = os.path.join(TOP, 'tools', 'dev.py')
 WAIT = 120      # seconds; other programs may have the machine
 
@@ -214,6 +214,11 @@ def saves():
         yield expect('each note is there', run.page(token='ann').count('<p>a note</p>'), asker.posts)
         yield expect('the copy that is kept', os.path.exists(run.path('store.db.before-1')), True)
         yield expect('no further copy', os.path.exists(run.path('store.db.before-2')), False)
+        run.saved(SESSIONS + 'eve Eve\n', 'sessions')
+        yield has('a session of no form', run.page('/dev//'), 'sessions: line 4', 'sessions:4:5: the viewer is the number of',
+                  ' ^^^')
+        run.saved(SESSIONS, 'sessions')
+        yield has('sessions as they were', run.page(), 'Edition two', but=['is refused'])
 
 
 def stores():

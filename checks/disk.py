@@ -17,10 +17,10 @@ import subprocess
 import sys
 import tempfile
 
-import proved
-from serving import served
+from support import proved
+from support.serving import served
 
-PROGRAM = proved.binary(sys.argv[1])
+PROGRAM = proved.binary(proved.first_word())
 LAST = int(sys.argv[2]) if len(sys.argv) > 2 else 30
 COMPILERS = 'cc', 'gcc', 'clang'
 SKIPPED = 77

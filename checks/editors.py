@@ -16,11 +16,11 @@ import tempfile
 import textwrap
 
 sys.dont_write_bytecode = True
-from pages import TOP, read                                                 # noqa: E402
+from support.pages import TOP, read                                         # noqa: E402
 
 sys.path.insert(0, os.path.join(TOP, 'tools'))
 import editors                                                              # noqa: E402
-import finger                                                               # noqa: E402
+import fault_place                                                          # noqa: E402
 
 PAGE = 'docs/LANGUAGE.md'
 CODE = re.compile(r'`([^`\n]+)`')
@@ -69,7 +69,7 @@ def heads(node, parent=None):
         yield node.children[0]
     for child in node.children:
         if head == 'template' and child.kind == 'text':
-            for statement in finger.statements_of(child):
+            for statement in fault_place.statements_of(child):
                 yield from (atom for atom in heads(statement) if atom.end > atom.start)
         else:
             yield from heads(child, 'binders' if head is None and parent == 'from' else head)
@@ -94,10 +94,10 @@ def of_language():
     for word, kind, form in editors.forms():
         wanted = r'\(%s(?=[\s)])' % word if form.startswith('(' + word) else r'(?<![\w-])%s(?![\w-])' % word
         yield None if any(re.search(wanted, part) for part in code) else '%s has no %s, %s' % (PAGE, kind, word)
-    for word in [*finger.STATEMENTS, *finger.EXPRESSIONS]:
+    for word in [*fault_place.STATEMENTS, *fault_place.EXPRESSIONS]:
         yield None if known.get(word, set()) & {'statement', 'expression'} else 'editors/forms.txt has no %s' % word
     for word in editors.table()['statement'] + editors.table()['expression']:
-        yield None if word in finger.SHAPES else 'the program has no form %s' % word
+        yield None if word in fault_place.SHAPES else 'the program has no form %s' % word
 
 
 def of_block(block):
@@ -105,7 +105,7 @@ def of_block(block):
     if not block.startswith('('):
         return []
     data = ('(parts %s)' % block.replace(' ..', '')).encode()
-    return [atom.value for atom in heads(finger.read_tree(data, list(range(len(data) + 1)))) if atom.value != 'parts']
+    return [atom.value for atom in heads(fault_place.read_tree(data, list(range(len(data) + 1)))) if atom.value != 'parts']
 
 
 def of_files():
@@ -122,7 +122,7 @@ def wanted_in(path):
     for word, kind, form in editors.forms():
         if form.startswith('(' + word):
             kinds[word] = kind
-    for atom in heads(finger.read_tree(data, list(range(len(data) + 1)))):
+    for atom in heads(fault_place.read_tree(data, list(range(len(data) + 1)))):
         if atom.value in kinds and data[atom.start:atom.end] == atom.value.encode():
             start = data.rfind(b'\n', 0, atom.start) + 1
             yield data.count(b'\n', 0, atom.start) + 1, atom.start - start + 1, atom.value, kinds[atom.value]

@@ -17,11 +17,11 @@ import subprocess
 import sys
 import tempfile
 
-import proved
-from late import all_of, looked_at
-from serving import served
+from support import proved
+from support.late import all_of, looked_at
+from support.serving import served
 
-PROGRAM = proved.binary(sys.argv[1])
+PROGRAM = proved.binary(proved.first_word())
 CALENDAR = b'''(app (viewer User)
  (model User (fields (name text)))
  (model Event (fields (title text) (host (ref User)) (open bool))

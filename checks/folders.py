@@ -1,5 +1,5 @@
 #!/usr/bin/env python3
-"""Checks applications that are folders: what `tools/assemble.py` puts together, the places that its map and the finger
+"""Checks applications that are folders: what `tools/assemble.py` puts together, the places that its map and the message
 name, the exit statuses, and that `jac serve` of a folder ends as the program does and leaves no file.
 
 Words: the script `jac`, or a program that `tools/run_folder.py` is to run. Without Jinja2 all is skipped but what is
@@ -14,8 +14,8 @@ import sys
 import tempfile
 
 sys.dont_write_bytecode = True
-import proved                                                               # noqa: E402
-from serving import free_port                                               # noqa: E402
+from support import proved                                                  # noqa: E402
+from support.serving import free_port                                       # noqa: E402
 
 TOP = proved.TOP
 TOOLS = os.path.join(TOP, 'tools')
@@ -55,7 +55,7 @@ TEXT = '''(app (viewer Person)
 ")))
 '''
 PARTS = {'main': MAIN, 'pages/rules': RULES, 'pages/layout.html': LAYOUT, 'pages/list.html': LIST}
-# a change of a part, the line of the program, and the place that the finger names
+# a change of a part, the line of the program, and the place that the message names
 REFUSED = [
     ('pages/list.html', 'get Person name p', 'get Persn name p', 'app: view 1: unknown name Persn',
      'pages/list.html:4:53: in the view get /: there is no model Persn'),
@@ -132,8 +132,8 @@ def of_the_text(command):
             yield None if have == (0, want) else '%s: %r' % (' '.join(words), have)
 
 
-def of_the_finger(command):
-    """The program's line, and the place in a part that the finger names on standard error."""
+def of_the_place(command):
+    """The program's line, and the place in a part that the message names on standard error."""
     pointing = command if command[-1].endswith('jac') else None
     for name, old, new, line, place in REFUSED:
         with tempfile.TemporaryDirectory() as room:
@@ -141,8 +141,8 @@ def of_the_finger(command):
             status, out, _ = folder.ran(command, 'check', 'site')
             yield None if status == 2 and out.startswith(line) else '%s: %r' % (new, (status, out))
             program = proved.binary(command[-1]) if pointing else command[-1]
-            said = folder.ran(script('finger.py'), program, 'check', 'site')[2]
-            yield None if said.startswith('site/' + place) else '%s: the finger says %r' % (new, said)
+            said = folder.ran(script('fault_place.py'), program, 'check', 'site')[2]
+            yield None if said.startswith('site/' + place) else '%s: the message is %r' % (new, said)
 
 
 def of_faults(command):
@@ -150,7 +150,7 @@ def of_faults(command):
     for name, old, new, words in FAULTY:
         with tempfile.TemporaryDirectory() as room:
             folder = Folder(room, changed(name, old, new))
-            for ran in ([*script('assemble.py'), 'site'], [*command, 'check', 'site'], [*script('look.py'), 'site'],
+            for ran in ([*script('assemble.py'), 'site'], [*command, 'check', 'site'], [*script('lint.py'), 'site'],
                         [*script('why.py'), 'site'], [*script('audit.py'), 'site', '/dev/null']):
                 status, out, err = folder.ran(ran)
                 right = (status, out) == (65, '') and err.startswith('site/' + words)
@@ -229,7 +229,7 @@ def main():
     program = proved.program(parser.parse_args().program)
     command = [program] if proved.is_script(program) else [*script('run_folder.py'), program]
     results, skipped = list(of_lacking_jinja(command)), 0
-    parts = [lambda: of_the_text(command), lambda: of_the_finger(command), lambda: of_faults(command),
+    parts = [lambda: of_the_text(command), lambda: of_the_place(command), lambda: of_faults(command),
              lambda: of_serving(command), of_the_examples, of_the_copies]
     if has_jinja():
         results += [result for part in parts for result in part()]

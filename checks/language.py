@@ -26,10 +26,10 @@ import tempfile
 import textwrap
 
 sys.dont_write_bytecode = True
-import proved                                                               # noqa: E402
-from pages import TOP, read                                                 # noqa: E402
+from support import proved                                                  # noqa: E402
+from support.pages import TOP, read                                         # noqa: E402
 
-PROGRAM = proved.program(sys.argv[1])
+PROGRAM = proved.program(proved.first_word())
 PAGE = 'docs/LANGUAGE.md'
 EXAMPLE = re.compile(r'`([^`\n]+)` (is|puts|answers 404 with|redirects to) `([^`\n]+)`')
 APART = re.compile(r'(?m)(?:^    .*\n)+(?:\n+(?:^    .*\n)+)*')
@@ -248,9 +248,9 @@ def of_readme():
     yield None if blocks[1] == shown else 'README.md: want %s, have %s' % (shown, blocks[1])
     status, lines = program(['replay', 'app', 'events'], {'app': blocks[0], 'events': events})
     yield None if (status, lines) == (0, out.splitlines()) else 'README.md: its application puts %s' % lines
-    said = subprocess.run([sys.executable, os.path.join(TOP, 'tools', 'look.py'), name + '.app'], cwd=TOP,
+    said = subprocess.run([sys.executable, os.path.join(TOP, 'tools', 'lint.py'), name + '.app'], cwd=TOP,
                           stdout=subprocess.PIPE, check=False).stdout.decode()
-    yield None if said == 'look: nothing to look at\n' else 'README.md: its application is to be looked at: ' + said
+    yield None if said == 'lint: nothing to look at\n' else 'README.md: its application is to be looked at: ' + said
 
 
 def of_templates():

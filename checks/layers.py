@@ -6,7 +6,7 @@ anew."""
 import sys
 
 sys.dont_write_bytecode = True
-from pages import differences, read                                         # noqa: E402
+from support.pages import differences, read                                 # noqa: E402
 from testing import of_crate                                                # noqa: E402
 
 PAGE = 'docs/LAYERS.md'

@@ -11,14 +11,14 @@ import sys
 import tempfile
 
 sys.dont_write_bytecode = True
-import proved                                                               # noqa: E402
-from serving import served                                                  # noqa: E402
+from support import proved                                                  # noqa: E402
+from support.serving import served                                          # noqa: E402
 
 TOP = os.path.dirname(os.path.dirname(os.path.abspath(__file__)))
 sys.path.insert(0, os.path.join(TOP, 'tools'))
 import walk                                                                 # noqa: E402
 
-PROGRAM = proved.binary(sys.argv[1])
+PROGRAM = proved.binary(proved.first_word())
 TOOL = os.path.join(TOP, 'tools', 'live.py')
 # applications and their events
 EXAMPLES = [('%s/app' % name, '%s/events' % name) for name in ('calendar', 'conference', 'courses', 'health')] + [

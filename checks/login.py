@@ -18,13 +18,13 @@ import tempfile
 import time
 
 sys.dont_write_bytecode = True
-import browser                                                                  # noqa: E402
-import installed                                                                # noqa: E402
-import proved                                                                   # noqa: E402
-from fronts import (CALENDAR, DEPLOY, HOST_NAME, PASSWORDS, TOP, Client, Skipped, account, add_accounts,  # noqa: E402
+import browser                                                              # noqa: E402
+from support import installed                                               # noqa: E402
+from support import proved                                                  # noqa: E402
+from support.fronts import (CALENDAR, DEPLOY, HOST_NAME, PASSWORDS, TOP, Client, Skipped, account, add_accounts,  # noqa: E402
                     certify, close, expect, placed, plain, read, report, secured, service, settle, shows, site_files,
                     until, write)
-from serving import HOST, free_port, is_listening                               # noqa: E402
+from support.serving import HOST, free_port, is_listening                   # noqa: E402
 
 AVAILABLE = '/etc/apache2/mods-available'
 SQLITE = 'apr_dbd_sqlite3'

@@ -29,9 +29,9 @@ import urllib.parse
 
 sys.dont_write_bytecode = True
 import browser                                                              # noqa: E402
-import proved                                                               # noqa: E402
+from support import proved                                                  # noqa: E402
 from browser import DESKTOP, PHONE, WIDTH                                   # noqa: E402
-from serving import HOST, served                                            # noqa: E402
+from support.serving import HOST, served                                    # noqa: E402
 
 TOP = proved.TOP
 # a busy machine may start a browser late

@@ -21,10 +21,10 @@ import sys
 import tempfile
 import time
 
-import installed
-import proved
+from support import installed
+from support import proved
 
-PROGRAM = proved.binary(sys.argv[1])
+PROGRAM = proved.binary(proved.first_word())
 SECONDS = float(sys.argv[2]) if len(sys.argv) > 2 else 90
 COMPILERS = 'cc', 'gcc', 'clang'
 SHOWN = 20      # failures that are printed

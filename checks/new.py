@@ -17,15 +17,15 @@ import urllib.parse
 import urllib.request
 
 sys.dont_write_bytecode = True
-import proved                                                               # noqa: E402
-import serving                                                              # noqa: E402
-from pages import TOP                                                       # noqa: E402
+from support import proved                                                  # noqa: E402
+from support import serving                                                 # noqa: E402
+from support.pages import TOP                                               # noqa: E402
 
 TOOLS = os.path.join(TOP, 'tools')
 sys.path.insert(0, TOOLS)
 import walk                                                                 # noqa: E402
 
-PROGRAM = proved.program(sys.argv[1])
+PROGRAM = proved.program(proved.first_word())
 PYTHON = [sys.executable]
 START = [PROGRAM] if proved.is_script(PROGRAM) else [*PYTHON, os.path.join(TOOLS, 'run_folder.py'), PROGRAM]
 WALK = [*PYTHON, os.path.join(TOOLS, 'walk.py'), '--program', PROGRAM]
@@ -97,8 +97,8 @@ def commands(folder):
 def of_readme(folder):
     """What is wrong with the commands of README.md that end by themselves."""
     found = dict(commands(folder))
-    yield None if set(found) == {'check', 'walk', 'serve', 'dev', 'look.py'} else 'README.md has the commands %s' % list(found)
-    for name, said in (('check', 'ok 2 models'), ('walk', 'all met'), ('look.py', 'nothing to look at')):
+    yield None if set(found) == {'check', 'walk', 'serve', 'dev', 'lint.py'} else 'README.md has the commands %s' % list(found)
+    for name, said in (('check', 'ok 2 models'), ('walk', 'all met'), ('lint.py', 'nothing to look at')):
         status, out = run(found[name], folder)
         yield None if status == 0 and said in out else '%s: %d, %s' % (name, status, out)
 

@@ -8,11 +8,11 @@ import subprocess
 import sys
 import tempfile
 
-import proved
+from support import proved
 
 TOP = os.path.dirname(os.path.dirname(os.path.abspath(__file__)))
 EXAMPLES = os.path.join(TOP, 'examples')
-PROGRAM = proved.program(sys.argv[1])
+PROGRAM = proved.program(proved.first_word())
 HELLO = b'(app (view get "/" (params) (put "hello")))'
 ASK = b'ask - GET "/" ""\n'
 PAGE = b'reply 200 "" "hello"\n'

@@ -7,7 +7,7 @@ import re
 import sys
 
 sys.dont_write_bytecode = True
-from pages import differences, read                                         # noqa: E402
+from support.pages import differences, read                                 # noqa: E402
 
 PAGE = 'docs/GUARANTEES.md'
 NAMED = ('examples/calendar.app', 'examples/calendar/app', 'examples/conference/app', 'examples/courses/app',

@@ -1,7 +1,11 @@
 #!/usr/bin/env python3
 """Walks the names from the clauses of the program's top call, `run` of jac_app, through the definitions in specs/,
-and compares what it finds with docs/READING.md and docs/DEFINITIONS.md. Where a page is out of date it says so,
-and its status is 1. With the word --write it writes the tables of docs/READING.md anew.
+and compares what it finds with docs/READING.md. Where the page is out of date it says so, and its status is 1.
+
+    checks/reading.py             compares
+    checks/reading.py --write     writes the tables of docs/READING.md anew
+    checks/reading.py --beyond    prints, file by file, the definitions of specs/ that the promise doesn't reach
+    checks/reading.py --types     prints the types and traits that the definitions name, file by file
 
 A name is followed where it is defined in specs/ or is a type or a trait of the code; a library's word is counted.
 Variables aren't told from definitions: one that has the name of a definition that its file has or brings in counts as
@@ -11,11 +15,11 @@ import re
 import sys
 
 sys.dont_write_bytecode = True
-from pages import TOP, differences, read                                    # noqa: E402
+from support.pages import TOP, differences, read                            # noqa: E402
 
 START = ('jac_app', 'program', 'run')
 PAGE = 'docs/READING.md'
-NOTIONS = 'docs/DEFINITIONS.md'
+SOURCES = '## Which notions are public ones'
 # The law that states the promise, with the definitions that READING quotes, and the pages that quote its words.
 LAWS = 'jac_headline', 'laws'
 HEADLINE = 'headline'
@@ -243,23 +247,41 @@ def names(items):
     return ', '.join('`%s`' % name for name in items) or 'none'
 
 
-def tables(start, seen):
-    definitions, types = [], []
+def by_file(seen):
+    """The names of what was reached, by file."""
     reached = {}
     for item in seen:
         reached.setdefault(item.place, set()).add(item.name)
+    return reached
+
+
+def definitions_table(start, seen):
+    """The files of specs/ that are reached, each before those that it cites."""
+    reached, lines = by_file(seen), ['| File | What it defines | Definitions |', '|---|---|---|']
     for place in in_order(start, seen):
-        path = place.path[len('crates/'):]
         if isinstance(place, Specs):
-            rest = [name for name in place.items if name not in reached[place]]
-            definitions.append('| `%s` | %s | %d | %s |' % (path, place.about, len(place.items) - len(rest), names(rest)))
-        else:
-            own = [name for name in place.items if name in reached[place]]
-            if own:
-                types.append('| `%s` | %s |' % (path, names(own)))
-    head = ['| File | What it defines | Carried | Not reached |', '|---|---|---|---|']
-    return {'definitions': '\n'.join(head + definitions),
-            'types': '\n'.join(['| File | Types and traits |', '|---|---|'] + types)}
+            count = sum(1 for name in place.items if name in reached[place])
+            of = '' if count == len(place.items) else ' of %d' % len(place.items)
+            lines.append('| `%s` | %s | %d%s |' % (place.path[len('crates/'):], place.about, count, of))
+    return '\n'.join(lines)
+
+
+def types_lines(start, seen):
+    """The types and traits that are reached, a line for each file."""
+    reached = by_file(seen)
+    for place in in_order(start, seen):
+        own = [name for name in place.items if name in reached[place]]
+        if isinstance(place, Code) and own:
+            yield '%s: %s' % (place.path, ', '.join(own))
+
+
+def beyond_lines(repository, seen):
+    """The definitions that aren't reached, a line for each file."""
+    reached = by_file(seen)
+    for place in repository.specs.values():
+        rest = [name for name in place.items if name not in reached.get(place, ())]
+        if rest:
+            yield '%s: %s' % (place.path, ', '.join(rest))
 
 
 def counts(repository, seen):
@@ -269,42 +291,23 @@ def counts(repository, seen):
 
 
 def sentence(repository, seen, library):
-    return ('The promise reaches %d definitions in %d files of `specs/` and %d words of the library; %d definitions '
-            'stand beside them.' % (counts(repository, seen)[:2] + (len(library),) + counts(repository, seen)[2:]))
+    return ('The promise reaches %d definitions in %d files of `specs/` and %d words of the library. %d definitions '
+            'aren\'t reached.' % (counts(repository, seen)[:2] + (len(library),) + counts(repository, seen)[2:]))
 
 
-def notions(repository):
-    """Of each row of docs/DEFINITIONS.md its notion, and the place and the name of each definition that it cites; a
-    place or a name that doesn't exist is None."""
-    for row in read(NOTIONS).split('\n'):
-        cells = [cell.strip() for cell in row.split('|')]
-        if len(cells) < 5 or '/specs/' not in cells[3]:
-            continue
-        place, cited = None, []
-        for word in re.findall(r'`([^`]*)`', cells[3]):
+def lost_definitions(repository):
+    """What the page's table of public sources cites by `FILE`, `NAME`, .. and specs/ doesn't have."""
+    lost = []
+    for row in read(PAGE).split(SOURCES)[1].split('\n'):
+        place = None
+        for word in re.findall(r'`([^`]*)`', row) if row.startswith('|') else ():
             if '/specs/' in word:
                 crate, module = word.split('/specs/')
                 place = repository.specs.get((crate, module[:-len('.antt')].replace('/', '.')))
-                cited += [(word, None)] if place is None else []
-            elif place is not None and '/' not in word:
-                cited.append((word, place.items.get(word)))
-        yield cells[1], cited
-
-
-def lost_notions(repository):
-    """What docs/DEFINITIONS.md names and specs/ doesn't have."""
-    return ['docs/DEFINITIONS.md, %s: there is no %s' % (notion, word)
-            for notion, cited in notions(repository) for word, item in cited if item is None]
-
-
-def unreached_notions(repository, seen):
-    """The rows of docs/DEFINITIONS.md of which the promise reaches some definition not, with those."""
-    lines = []
-    for notion, cited in notions(repository):
-        beyond = [word for word, item in cited if item not in seen]
-        if beyond:
-            lines.append('| %s | %s |' % (notion, 'nothing' if len(beyond) == len(cited) else 'all but ' + names(beyond)))
-    return '\n'.join(['| Notion | Reached |', '|---|---|'] + lines)
+                lost += [word] if place is None else []
+            elif place is not None and '/' not in word and word not in place.items:
+                lost.append('%s in %s' % (word, place.path))
+    return ['%s: there is no %s' % (PAGE, word) for word in lost]
 
 
 def law_words(name):
@@ -337,16 +340,19 @@ def law_counts(repository):
 def main():
     repository = Repository()
     start, seen, library = repository.walk()
-    parts = tables(start, seen)
-    parts['counts'] = sentence(repository, seen, library)
-    parts['notions'] = unreached_notions(repository, seen)
-    parts['headline'] = law_words(HEADLINE)
-    parts['statement'] = law_code(repository, HEADLINE)
+    if '--types' in sys.argv[1:]:
+        return print('\n'.join(types_lines(start, seen)))
+    if '--beyond' in sys.argv[1:]:
+        return print('\n'.join(beyond_lines(repository, seen)))
+    parts = {'definitions': definitions_table(start, seen),
+             'counts': sentence(repository, seen, library),
+             'headline': law_words(HEADLINE),
+             'statement': law_code(repository, HEADLINE)}
     parts['laws'], wrong = law_counts(repository)
     write = '--write' in sys.argv[1:]
     for page in QUOTERS:
         wrong += differences(page, {'headline': parts['headline']}, 'checks/reading.py', write)
-    wrong += lost_notions(repository) + differences(PAGE, parts, 'checks/reading.py', write)
+    wrong += lost_definitions(repository) + differences(PAGE, parts, 'checks/reading.py', write)
     for line in wrong:
         print('FAILED ' + line)
     print(parts['counts'])

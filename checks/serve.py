@@ -18,14 +18,14 @@ import tempfile
 import threading
 import time
 
-import installed
-import proved
-from late import Late, Plain, all_of, as_many, looked_at
-from serving import Served, free_port, is_listening, served
+from support import installed
+from support import proved
+from support.late import Late, Plain, all_of, as_many, looked_at
+from support.serving import Served, free_port, is_listening, served
 
 TOP = os.path.dirname(os.path.dirname(os.path.abspath(__file__)))
 CALENDAR = os.path.join(TOP, 'examples', 'calendar')
-PROGRAM = proved.program(sys.argv[1])
+PROGRAM = proved.program(proved.first_word())
 HELLO = b'(app (view get "/" (params) (put "hello"))' \
         b' (view get "/large" (params) %s (put "end")))' % (b'(put "%s")' % (b'x' * 1000) * 100)
 LARGE = 100 * 1000 + len('end')

@@ -9,6 +9,7 @@ import glob
 import http.client
 import os
 import random
+import re
 import resource
 import shutil
 import signal
@@ -18,15 +19,16 @@ import sys
 import tempfile
 import time
 
-import proved
-from serving import served
+from support import proved
+from support.serving import served
 
-PROGRAM = proved.program(sys.argv[1])
+PROGRAM = proved.program(proved.first_word())
 TOP = os.path.dirname(os.path.dirname(os.path.abspath(__file__)))
 # the script copies a store before its upgrade; beside any other program it is done as the script does it
 IS_SCRIPT = proved.is_script(PROGRAM) or PROGRAM == proved.PROVED
 UPGRADE = [os.path.join(TOP, 'jac')] if IS_SCRIPT else [
     sys.executable, os.path.join(TOP, 'tools', 'store_copies.py'), 'upgrade', PROGRAM]
+FAULT_PLACE = os.path.join(TOP, 'tools', 'fault_place.py')
 KILLS, UPGRADES = (int(sys.argv[2]),) * 2 if len(sys.argv) > 2 else (50, 100)
 CALENDAR = b'''(app (viewer User)
  (model User (fields (name text)))
@@ -75,6 +77,19 @@ RENEWED = '(schema (model User (fields (name text)) (groups (name)))' \
           ' (model Event (fields (title text) (host (ref User)) (open bool) (place text)) (groups (title)))' \
           ' (model Note (fields (body text)) (groups)))'
 LAST = 2 ** 40
+# What is done to a store so that it is refused, and what is said of it then.
+EXPLAINED = {
+    'auto_vacuum': (['PRAGMA journal_mode = delete', 'PRAGMA auto_vacuum = FULL', 'VACUUM'], 'd is a database with auto_vacuum'),
+    'number 0': (['UPDATE meta SET number = 0'], 'the number of d is 0, and its records ask for 4 at least'),
+    'a number that is too low': (['UPDATE meta SET number = 2'], 'the number of d is 2, and its records ask for 4'),
+    'a number past the last': (['UPDATE meta SET number = %d' % (LAST + 1)], '2^40 is the last. Put a backup'),
+    'no number': (['DELETE FROM meta'], 'the table meta of d has no row'),
+    'a second row': (["INSERT INTO meta VALUES(1, 4, 'x')"], 'the table meta of d has 2 rows'),
+    'an index more': (['CREATE INDEX alts ON rec(alt)'], 'd has the index alts besides the tables of a store'),
+    'statistics': (['ANALYZE'], 'd has the table sqlite_stat1, which an ANALYZE made'),
+    'tables of another program': (['DROP TABLE meta', 'DROP TABLE rec', 'CREATE TABLE notes(body TEXT)'],
+                                  'd is a database of another program: it has the table notes'),
+}
 
 
 class Folder:
@@ -370,6 +385,112 @@ def of_another_program(at):
     yield expect('tables of another program, afterwards', at.content(), before)
 
 
+def explained(at, name):
+    """What is said of a store that the program refused, and that its file and what is beside it stay as they are."""
+    at.write('a', PLAIN)
+    at.write('e', NAMES)
+    status = subprocess.run([PROGRAM, 'replay', 'a', 'e', '--db', 'd'], cwd=at.folder, timeout=120,
+                            stdin=subprocess.DEVNULL, stdout=subprocess.DEVNULL, stderr=subprocess.DEVNULL).returncode
+    yield expect(name + ', refused', status, 6)
+    before, files = bytes_of(at.store), sorted(os.listdir(at.folder))
+    done = subprocess.run([sys.executable, FAULT_PLACE, '--status', '6', PROGRAM, 'replay', 'a', 'e', '--db', 'd'], cwd=at.folder,
+                          timeout=120, stdin=subprocess.DEVNULL, stdout=subprocess.PIPE, stderr=subprocess.PIPE)
+    at.said = done.stderr.decode()
+    yield expect(name + ', on standard output', done.stdout, b'')
+    yield expect(name + ', what it leaves', (bytes_of(at.store), sorted(os.listdir(at.folder))), (before, files))
+
+
+def explained_refusals(at):
+    """Of each store that is refused standard error says what it is; and what it says to do brings the store back."""
+    for name, (spoils, want) in EXPLAINED.items():
+        with fresh() as other:
+            other.replay(STORY)
+            other.alter(*spoils)
+            yield from explained(other, name)
+            yield None if want in other.said else '%s: %r is not in %r' % (name, want, other.said)
+            command = re.search(r"sqlite3 d '([^']*)'", other.said)
+            if command:
+                other.alter(*command[1].split(';'))
+                yield expect(name + ', after ' + command[1], other.replay(NAMES), (0, b'reply 200 "" "Ann;Bob;"\n'))
+    at.write('d', b'no database\n' * 1000)
+    yield from explained(at, 'no database')
+    yield expect('what is said of no database', 'd is no database of SQLite' in at.said, True)
+
+
+HOLD = "import sqlite3, sys; held = sqlite3.connect('d'); held.execute('BEGIN IMMEDIATE'); print(flush=True); sys.stdin.read()"
+
+
+def explained_holder(at):
+    """Which process has a store open is said. It is another one, since who closes a file lets its own locks go."""
+    at.replay(STORY)
+    holder = subprocess.Popen([sys.executable, '-c', HOLD], cwd=at.folder, stdin=subprocess.PIPE, stdout=subprocess.PIPE)
+    with holder:
+        holder.stdout.readline()
+        yield from explained(at, 'a store that is held')
+        yield expect('who holds a store', at.said.startswith('jac: d is open in the process %d (' % holder.pid), True)
+        holder.stdin.close()
+
+
+def explained_journal(at):
+    """A change that another program left undone is told, and undone by the command that is said."""
+    at.replay(STORY)
+    at.alter('PRAGMA journal_mode = delete')
+    with fresh() as other, contextlib.closing(sqlite3.connect(at.store)) as database:
+        database.execute('PRAGMA cache_size = 1')
+        database.execute('BEGIN')
+        database.execute("UPDATE rec SET body = zeroblob(100000)")
+        for end in '', '-journal':
+            shutil.copy(at.store + end, other.store + end)
+        yield from explained(other, 'a journal')
+        yield None if 'd-journal is of a change that another program' in other.said else 'a journal: %r' % other.said
+        other.alter(*re.search(r"sqlite3 d '([^']*)'", other.said)[1].split(';'))
+        yield expect('a journal that was played back', other.replay(NAMES), (0, b'reply 200 "" "Ann;Bob;"\n'))
+
+
+def renamed(at):
+    """A store whose schema was written anew, as USING says, is one of the application with the other names."""
+    at.replay(STORY)
+    app = PLAIN.replace(b'name', b'called').replace(b'Event', b'Meeting')
+    at.write('n', app)
+    yield expect('another name', at.replay(b'ask - GET "/calleds" ""\n', app=app)[0], 9)
+    done = subprocess.run([sys.executable, os.path.join(TOP, 'tools', 'schema.py'), 'n'], cwd=at.folder,
+                          stdin=subprocess.DEVNULL, stdout=subprocess.PIPE)
+    at.alter("UPDATE meta SET schema = '%s'" % done.stdout.decode().rstrip('\n'))
+    yield expect('after a rename', at.replay(b'ask - GET "/calleds" ""\n', app=app), (0, b'reply 200 "" "Ann;Bob;"\n'))
+    for name, text in (('shapes', SHAPED), ('the calendar', PLAIN), ('the next version', NEXT)):
+        with fresh() as other:
+            other.replay(NAMES, app=text)
+            done = subprocess.run([sys.executable, os.path.join(TOP, 'tools', 'schema.py'), 'a'], cwd=other.folder,
+                                  stdin=subprocess.DEVNULL, stdout=subprocess.PIPE)
+            yield expect('the schema of ' + name, [(done.stdout.decode()[:-1],)], other.read('SELECT schema FROM meta'))
+
+
+def taken_out(at):
+    """A row that can't stand there is found and taken out by the commands of USING, and the store is served again."""
+    at.replay(STORY)
+    at.alter("UPDATE rec SET jvars = x'00' WHERE model = 1 AND alt = 0")
+    row = re.search(rb'row (\d+) of rec', at.told())
+    model, jid, alt = at.read('SELECT model, hex(jid), alt FROM rec ORDER BY model, jid, alt LIMIT 1 OFFSET %d' % (
+        int(row[1]) - 1))[0]
+    yield expect('the row', (model, jid, alt), (1, number(12289).hex().upper(), 0))
+    at.alter("DELETE FROM rec WHERE model = %d AND jid = x'%s' AND alt = %d" % (model, jid, alt),
+             "UPDATE rec SET alt = alt - 1 WHERE model = %d AND jid = x'%s' AND alt > %d" % (model, jid, alt))
+    status, out = at.replay(NAMES + LIST)
+    yield expect('without the row', (status, out.count(b'reply 200')), (0, 3))
+
+
+def renewed(at):
+    """One request stores each public value anew, as USING says."""
+    at.replay(STORY)
+    text = PLAIN.replace(b'"private"', b'"busy"').rstrip()[:-1] + b"""
+ (view post "/renew" (params)
+  (for (from ((e Event)) true key) (update Event e (set (title (get Event title e)))))))
+"""
+    yield expect('before', at.replay(LIST, app=text), (0, LISTED))
+    yield expect('renewed', at.replay(b'ask - POST "/renew" ""\n' + LIST, app=text),
+                 (0, b'reply 200 "" ""\n' + LISTED.replace(b'private', b'busy')))
+
+
 def replay_killed(at, pause):
     """Replays many joins, kills the run after a while, and gives how many were answered."""
     at.write('a', PLAIN)
@@ -630,7 +751,8 @@ def fresh():
 def main():
     results = []
     for part in (kept, spelled, shaped, made_by_hand, damaged, refused, missing, refused_dump, refused_upgrade, held, full,
-                 of_another, of_another_program, killed, upgraded, copied_before, copied_with_its_log,
+                 of_another, of_another_program, explained_refusals, explained_holder, explained_journal, renamed,
+                 taken_out, renewed, killed, upgraded, copied_before, copied_with_its_log,
                  piped, upgrades_killed, upgrade_of_many):
         with fresh() as at:
             results += list(part(at)) or [None]

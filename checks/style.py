@@ -10,7 +10,7 @@ import re
 import sys
 
 sys.dont_write_bytecode = True
-from pages import TOP, read                                                 # noqa: E402
+from support.pages import TOP, read                                         # noqa: E402
 from reading import Specs                                                   # noqa: E402
 from testing import crates, paths                                           # noqa: E402
 

@@ -7,7 +7,7 @@ import sys
 
 sys.dont_write_bytecode = True
 from cases import FOLDER, parse                                             # noqa: E402
-from pages import TOP, differences, read                                    # noqa: E402
+from support.pages import TOP, differences, read                            # noqa: E402
 from reading import Specs                                                   # noqa: E402
 
 PAGE = 'docs/TESTING.md'

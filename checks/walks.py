@@ -17,10 +17,10 @@ import tempfile
 import textwrap
 
 sys.dont_write_bytecode = True
-import proved                                                               # noqa: E402
-from pages import TOP, read                                                 # noqa: E402
+from support import proved                                                  # noqa: E402
+from support.pages import TOP, read                                         # noqa: E402
 
-PROGRAM = proved.program(sys.argv[1])
+PROGRAM = proved.program(proved.first_word())
 TOOL = os.path.join(TOP, 'tools', 'walk.py')
 sys.path.insert(0, os.path.join(TOP, 'tools'))
 import walk                                                                 # noqa: E402
@@ -133,7 +133,7 @@ REFUSED = {
     'a request without who asks': ('GET /\n', 1, 'a request begins with who asks: as nobody GET'),
     'nobody of that name': ('as anne GET /\n', 1, 'nothing is called anne: is ann meant?'),
     'a record that is no viewer': (JOINED + 'as card GET /\n', 4, 'card is a Card, and a viewer is a User'),
-    'a record of no name': ('as ann GET /card/{card}\n', 1, 'nothing is called card'),
+    'a record of no name': ('as ann GET /card/{card}\n', 1, 'nothing is called card; the names here are ann'),
     'an expectation before a request': ('\n# none\nhas "x"\n', 3, 'there is no request before it'),
     'a text without quotes': ('as ann GET /\n has x\n', 2, 'a text in quotes is expected, and not x'),
     'no text': ('as ann GET /\n has\n', 2, 'a text in quotes is expected after has'),

@@ -21,7 +21,7 @@ TOP = os.path.dirname(TOOLS)
 sys.path.insert(0, TOOLS)
 import application                                                          # noqa: E402
 import audit                                                                # noqa: E402
-import finger                                                               # noqa: E402
+import fault_place                                                          # noqa: E402
 import hidden                                                               # noqa: E402
 import store_copies                                                         # noqa: E402
 
@@ -266,9 +266,9 @@ def made(options, room):
         file.write(data)
     store = Store(options.program, options.app, text, copy)
     hidden.asked(options.program, 'dump', text, '-', copy)  # says what is wrong with the application or the store
-    names, checker = audit.Names(data), finger.Checker(finger.read_tree(data, list(range(len(data) + 1))))
-    guarded = {model.children[1].value: {guard.children[0].value for group in finger.groups_in(model)
-                                         for guard in finger.guards_in(group)} for model in checker.models}
+    names, checker = audit.Names(data), fault_place.Checker(fault_place.read_tree(data, list(range(len(data) + 1))))
+    guarded = {model.children[1].value: {guard.children[0].value for group in fault_place.groups_in(model)
+                                         for guard in fault_place.guards_in(group)} for model in checker.models}
     known = store.names(guarded)
     model = checker.viewer.value if checker.viewer is not None else None
     return page(options, names, known, columns_of(options, store, names, known, model))

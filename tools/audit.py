@@ -15,7 +15,7 @@ import sys
 sys.dont_write_bytecode = True
 sys.path.insert(0, os.path.dirname(os.path.abspath(__file__)))
 import assemble                                                             # noqa: E402
-import finger                                                               # noqa: E402
+import fault_place                                                          # noqa: E402
 
 
 # a record that was made in a loop has the number of the loop's record times this before its own
@@ -26,13 +26,13 @@ class Names:
     """What the numbers of an application mean."""
 
     def __init__(self, data):
-        checker = finger.Checker(finger.read_tree(data, list(range(len(data) + 1))))
+        checker = fault_place.Checker(fault_place.read_tree(data, list(range(len(data) + 1))))
         self.models = [model.children[1].value for model in checker.models]
-        self.groups = [[self.parts(group) for group in finger.groups_in(model)] for model in checker.models]
+        self.groups = [[self.parts(group) for group in fault_place.groups_in(model)] for model in checker.models]
 
     @staticmethod
     def parts(group):
-        return ['the record'] if finger.hides(group) else [guard.children[0].value for guard in finger.guards_in(group)]
+        return ['the record'] if fault_place.hides(group) else [guard.children[0].value for guard in fault_place.guards_in(group)]
 
     def record(self, number):
         model, post, around = number % 64, number % LOOP // 4096, number // LOOP

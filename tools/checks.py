@@ -21,7 +21,7 @@ from schedule import processors                                             # no
 
 CHECKS = os.path.join(TOP, 'checks')
 sys.path.append(CHECKS)
-from installed import SKIPPED, missing, told                                # noqa: E402
+from support.installed import SKIPPED, missing, told                        # noqa: E402
 
 LIST = os.path.join(CHECKS, 'list.txt')
 TAIL = 40                           # lines of a failed check that are printed

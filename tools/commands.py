@@ -1,5 +1,5 @@
 """The words of the commands, for messages alone: which one is wrong, where the program has put its line of usage. The
-program decides; docs/USING.md has the rules, and `checks/finger.py` compares these with the program's."""
+program decides; docs/USING.md has the rules, and `checks/fault_places.py` compares these with the program's."""
 import difflib
 import re
 
@@ -13,6 +13,7 @@ MANY = 2 ** 128
 HELP = '''what jac does; docs/USING.md has more of each
     check APP               reads an application, and says what is wrong with it
     dev APP PORT            serves it while it is written, for a browser on this machine
+    lint APP                points out places to think about: writes, raw text, strangers
     walk APP WALK..         tests it by walks, which say who asks what and what is expected
     serve APP PORT COUNT    serves so many connections
     replay APP EVENTS       answers a file of events
@@ -100,10 +101,9 @@ class Words:
         wanted = COMMANDS[self.command]
         if len(self.operands) > len(wanted):
             return '%s is one word too many: the command is %s' % (self.operands[len(wanted)], shape(self.command))
-        for name, word in zip(wanted, self.operands):
-            wrong = operand_words(name, word)
-            if wrong:
-                return wrong
+        wrong = [words for words in map(operand_words, wanted, self.operands) if words]
+        if wrong:
+            return '; and '.join(wrong)
         if len(self.operands) < len(wanted):
             return '%s is missing: the command is %s' % (wanted[len(self.operands)], shape(self.command))
         if self.command == 'upgrade' and '--db' not in self.seen:
@@ -116,6 +116,13 @@ def applications(words):
     read = Words(words[0], words[1:])
     read.fault()
     return [word for name, word in zip(COMMANDS[words[0]], read.operands) if name in ('APP', 'OLD', 'NEW')]
+
+
+def events(words):
+    """The file of events among the words of a command that has nothing wrong, or None."""
+    read = Words(words[0], words[1:])
+    read.fault()
+    return dict(zip(COMMANDS[words[0]], read.operands)).get('EVENTS')
 
 
 def value_of(words, option):
@@ -134,5 +141,5 @@ def fault(words):
     if not words or words[0] in ('help', '--help', '-h'):
         return HELP
     if words[0] not in COMMANDS:
-        return 'there is no command %s%s\n%s' % (words[0] or '""', near(words[0], [*COMMANDS, 'dev']), HELP)
+        return 'there is no command %s%s\n%s' % (words[0] or '""', near(words[0], [*COMMANDS, 'dev', 'lint', 'walk']), HELP)
     return Words(words[0], words[1:]).fault()

@@ -27,7 +27,7 @@ import kit                                                                  # no
 from costs import HEAD, PAGE, costs                                         # noqa: E402
 from crates import below, crates                                            # noqa: E402
 from gate import measured                                                   # noqa: E402
-from pages import differences                                               # noqa: E402
+from support.pages import differences                                       # noqa: E402
 from schedule import Schedule, Task, free_memory, processors                # noqa: E402
 
 PROOF, TESTS, EDITS = STEPS = 'proof', 'tests', 'edits'

@@ -1,5 +1,5 @@
 #!/usr/bin/env python3
-"""Serves an application while it is written: at each save the text is checked and given a second look, and the new
+"""Serves an application while it is written: at each save the text is checked and linted, and the new
 text is served in the place of the old one. Requests that come meanwhile wait, and none is refused. `./jac dev` starts
 it, and gives it the program as its first word. docs/USING.md, "Writing an application", says what the browser shows.
 
@@ -22,9 +22,10 @@ sys.dont_write_bytecode = True
 sys.path.insert(0, os.path.dirname(os.path.abspath(__file__)))
 import application                                                          # noqa: E402
 import dev_proxy                                                            # noqa: E402
-import finger                                                               # noqa: E402
+import fault_place                                                          # noqa: E402
 import hidden                                                               # noqa: E402
 import schema                                                               # noqa: E402
+import store_faults                                                         # noqa: E402
 from hidden import output_of                                                # noqa: E402
 
 TOOLS = os.path.dirname(os.path.abspath(__file__))
@@ -212,12 +213,12 @@ class Dev:
         status, line, _ = output_of([self.program, 'check', path])
         if status == 0:
             return Text(path, data, line)
-        raise Refused(line.replace(path, self.source.path), finger.report(self.program, data, self.source.path, line))
+        raise Refused(line.replace(path, self.source.path), fault_place.report(self.program, data, self.source.path, line))
 
     def looked(self):
-        """What the second look says of the application, or nothing."""
-        _, out, told = output_of([sys.executable, os.path.join(TOOLS, 'look.py'), self.source.path])
-        return '' if out.startswith('look: nothing') else out or told
+        """What the linter says of the application, or nothing."""
+        _, out, told = output_of([sys.executable, os.path.join(TOOLS, 'lint.py'), self.source.path])
+        return '' if out.startswith('lint: nothing') else out or told
 
     def count_looks(self):
         return max(1, self.looks.count(': look at this'))
@@ -239,10 +240,19 @@ class Dev:
                 if isinstance(fault, Refused):
                     self.waiting = text if fault.is_schema else None
                     raise
-                raise Refused(fault.line.replace(text.path, self.source.path), fault.told) from None
+                raise Refused(fault.line.replace(text.path, self.source.path), self.reason(fault)) from None
             if self.text:
                 os.remove(self.text.path)
             self.text, self.waiting = text, None
+
+    def reason(self, fault):
+        """Why the program didn't start: the place in the sessions, or what the store is, or what the program said."""
+        told = ''
+        if fault.status == fault_place.LINES_REFUSED:
+            told = fault_place.told_of_sessions(self.program, self.sessions)
+        elif fault.status == fault_place.STORE_FAULT:
+            told = store_faults.told(self.store)
+        return '\n'.join(filter(None, (fault.told, told)))
 
     def started(self, text):
         words = [self.program, 'serve', '--lazy', '--db', self.store.replace('%', '%%'), '--audit', '%(audit)s']
@@ -271,8 +281,8 @@ class Dev:
         lack = schema.first_lack(old, text.models)
         if lack:
             raise Refused('the store can\'t be upgraded to this text: %s' % lack, is_schema=True, details=(
-                'An upgrade adds models, fields and groups after those that are there. Leave the old part as it is and '
-                'add another, or begin with a new store.'))
+                'An upgrade adds models, fields and groups after those that are there.%s Leave the old part as it is and '
+                'add another, or begin with a new store.' % schema.likeness(old, text.models)))
         if schema.is_same(old, text.models):
             return None
         kept, bridge = self.copied(), os.path.join(self.room, 'old')

@@ -21,7 +21,8 @@ STYLE = '''
 .line { display: flex; flex-wrap: wrap; gap: .3em 1em; align-items: center; padding: .35em .8em }
 .line form { display: flex; gap: .4em; align-items: center; margin: 0 }
 .line b { color: #3b4a7a }
-select, button { font: inherit; padding: .1em .4em; max-width: 12em }
+select, button { font: inherit; padding: .1em .4em }
+select { max-width: 12em }
 button { border: 1px solid #3b4a7a; border-radius: 3px; background: #fff; color: #1d2333; cursor: pointer }
 a { color: #2446a8 }
 summary { cursor: pointer; padding: .2em .8em }
@@ -44,7 +45,7 @@ PAGE = '''<!DOCTYPE html>
 <meta charset="utf-8">
 <title>%s</title>
 <meta name="viewport" content="width=device-width">
-<style>body { margin: 0 } main { max-width: 60em; margin: 0 auto; padding: 1em } .line { padding: .35em 0 } %s</style>
+<style>body { margin: 0 } main { max-width: 60em; margin: 0 auto; padding: 1em } main .line { padding: .35em 0 } %s</style>
 <main>
 %s
 </main>
@@ -72,6 +73,9 @@ MOVE = '''<script>(() => {
   const bar = document.querySelector("jac-dev-bar").shadowRoot;
   const choice = bar.querySelector("select");
   choice.addEventListener("change", () => choice.form.submit());
+  // the page ends above the bar, however high that is
+  const room = bar.querySelector(".bar");
+  new ResizeObserver(() => { bar.host.style.height = room.offsetHeight + 16 + "px"; }).observe(room);
   const labels = bar.querySelector(".labels");
   labels.addEventListener("toggle", async () => {
     const room = labels.querySelector(".inside");
@@ -219,8 +223,8 @@ def labels(dev, page):
     stale = '' if page.text is dev.text else '<p>This page is of an earlier text.</p>'
     of = 'of this page' if hidden is not None else 'of the store'
     rest = sorted(why) if hidden is None else hidden
-    parts = [stale, listed('Shown to %s' % escaped(named(page.text, page.viewer)), 'shown',
-                           [item(names, label) for label in page.shown])]
+    whom = 'a stranger' if page.viewer == '-' else named(page.text, page.viewer)
+    parts = [stale, listed('Shown to %s' % escaped(whom), 'shown', [item(names, label) for label in page.shown])]
     parts.append(listed('Hidden, %s' % of, 'hidden', [item(names, label, why.get(label, '')) for label in rest]))
     if not page.shown and not rest:
         parts.append('<p>No label was consulted: nothing on this page is guarded.</p>')

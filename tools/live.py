@@ -27,7 +27,7 @@ sys.path.insert(0, TOOLS)
 import application                                                          # noqa: E402
 import audit                                                                # noqa: E402
 import commands                                                             # noqa: E402
-import finger                                                               # noqa: E402
+import fault_place                                                          # noqa: E402
 import hidden                                                               # noqa: E402
 import schema                                                               # noqa: E402
 import store_copies                                                         # noqa: E402
@@ -90,7 +90,7 @@ def list_view(place, model):
 
 def lists_of(data, models):
     """An application that has the models of another one, with their policies, and lists of their records."""
-    checker = finger.Checker(finger.read_tree(data, list(range(len(data) + 1))))
+    checker = fault_place.Checker(fault_place.read_tree(data, list(range(len(data) + 1))))
     head = '(app\n' + (' (viewer %s)\n' % checker.viewer.value if checker.viewer is not None else '')
     kept = b'\n'.join(data[model.start:model.end] for model in checker.models)
     views = '\n'.join(list_view(place, model) for place, model in enumerate(models))

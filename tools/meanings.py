@@ -1,4 +1,4 @@
-"""Words of other languages, and what they are called here, for the messages of `finger.py`."""
+"""Words of other languages, and what they are called here, for the messages of `fault_place.py`."""
 
 EXPRESSIONS = {
     'add': ('plus', 'sum2', 'increment', 'inc'),

@@ -12,13 +12,13 @@ import sys
 sys.dont_write_bytecode = True
 sys.path.insert(0, os.path.dirname(os.path.abspath(__file__)))
 import assemble                                                             # noqa: E402
-import finger                                                               # noqa: E402
+import fault_place                                                          # noqa: E402
 
 
 def with_files(words):
     """The words with a file in the place of each folder."""
     words = list(words)
-    for at in finger.places_of_applications(words):
+    for at in fault_place.places_of_applications(words):
         if assemble.main_part(words[at]):
             words[at] = assemble.path_of(assemble.read_or_exit(words[at]))
     return words

@@ -1,13 +1,16 @@
+#!/usr/bin/env python3
 """What a store keeps of its application: its models, with their fields and groups, as the store's table `meta` has
 them. Reads them from a store and from an application, tells the first difference, and whether `upgrade` leads from the
-one to the other."""
+one to the other.
+
+Words: an application, of which the schema's text is put. docs/USING.md, "A rename", says what that is for."""
 import os
 import sqlite3
 import sys
 
 sys.dont_write_bytecode = True
 sys.path.insert(0, os.path.dirname(os.path.abspath(__file__)))
-import finger                                                               # noqa: E402
+import fault_place                                                          # noqa: E402
 
 # what an application of a schema alone gives as public values
 PUBLIC = {'int': '0', 'text': '""', 'bool': 'false'}
@@ -30,22 +33,22 @@ def fields_of(node):
 
 def of_tree(tree):
     """The models of an application's tree."""
-    return [Model(model.children[1].value, finger.is_nested(model), fields_of(finger.fields_in(model)),
-                  ['hides' if finger.hides(group) else
-                   tuple(guard.children[0].value for guard in finger.guards_in(group))
-                   for group in finger.groups_in(model)])
+    return [Model(model.children[1].value, fault_place.is_nested(model), fields_of(fault_place.fields_in(model)),
+                  ['hides' if fault_place.hides(group) else
+                   tuple(guard.children[0].value for guard in fault_place.guards_in(group))
+                   for group in fault_place.groups_in(model)])
             for model in tree.children if model.head() == 'model']
 
 
 def of_application(data):
-    return of_tree(finger.read_tree(data, list(range(len(data) + 1))))
+    return of_tree(fault_place.read_tree(data, list(range(len(data) + 1))))
 
 
 def of_text(text):
     """The models of a schema's text, `(schema (model NAME (fields ..) (groups ..)) ..)`."""
     data = text.encode()
     models = []
-    for model in finger.read_tree(data, list(range(len(data) + 1))).children[1:]:
+    for model in fault_place.read_tree(data, list(range(len(data) + 1))).children[1:]:
         groups = ['hides' if group.kind == 'atom' else tuple(field.value for field in group.children)
                   for group in model.children[-1].children[1:]]
         models.append(Model(model.children[1].value, model.children[2].is_atom('nested'),
@@ -109,6 +112,43 @@ def first_lack_in(old, new):
     return None
 
 
+def likeness(old, new):
+    """What the first lack looks like, and what to do about it, or nothing."""
+    found = likeness_of(old, new, [model.name for model in old], [model.name for model in new], 'model %s', is_renamed)
+    if found:
+        return found
+    for model, other in zip(old, new):
+        found = likeness_of(model.fields, other.fields, [name for name, _ in model.fields],
+                            [name for name, _ in other.fields], 'field %%s of %s' % model.name, lambda a, b: a[1] == b[1])
+        if found or first_lack_in(model, other):
+            return found
+    return ''
+
+
+def is_renamed(old, new):
+    """Whether two models differ in their names alone, as far as the names of fields and models go."""
+    return old.nested == new.nested and [name for name, _ in old.fields] == [name for name, _ in new.fields] and \
+        old.groups == new.groups
+
+
+def likeness_of(old, new, names, others, what, is_alike):
+    """The same of two lists of models, or of fields, with the names of each."""
+    for place, name in enumerate(names):
+        other = others[place] if place < len(others) else None
+        if other == name:
+            continue
+        if name in others:
+            if other in names:
+                return ' It looks as if the order was changed: put the %s back in its place.' % (what % name)
+            return ' It looks as if the %s was put in before others: put it after them.' % (what % other)
+        if other is not None and other not in names and is_alike(old[place], new[place]):
+            return ' It looks as if the %s was renamed to %s: docs/USING.md, "A rename", has the command for that.' % (
+                what % name, other)
+        return ' It looks as if the %s was removed: leave it in its place, since what nobody uses does no harm.' % (
+            what % name)
+    return ''
+
+
 def first_addition(old, new):
     """The first part that the new models have beyond the old ones, which they extend."""
     for model, other in zip(old, new):
@@ -144,6 +184,17 @@ def application(models):
     return '(app\n %s)\n' % '\n '.join(map(model_text, models))
 
 
+def schema_text(models):
+    """The schema's text, as a store keeps it."""
+    texts = []
+    for model in models:
+        groups = ' '.join(group if group == 'hides' else '(%s)' % ' '.join(group) for group in model.groups)
+        texts.append('(model %s%s (fields%s) (groups%s))' % (
+            model.name, ' nested' if model.nested else '', ''.join(' (%s %s)' % field for field in model.fields),
+            ' ' + groups if groups else ''))
+    return '(schema%s)' % ''.join(' ' + text for text in texts)
+
+
 def told(command, store, apps):
     """What to say of a store that isn't one of the application that a command is given, or of two applications of an
     upgrade, or nothing. `apps` are the applications' names, each with its text."""
@@ -156,7 +207,7 @@ def told(command, store, apps):
     if command == 'upgrade' and len(apps) == 2:
         lack = first_lack(*models)
         return lack and '%s does not extend %s: %s. An upgrade adds models, fields and groups after those that are ' \
-            'there.' % (apps[1][0], apps[0][0], lack)
+            'there.%s' % (apps[1][0], apps[0][0], lack, likeness(*models))
     return ''
 
 
@@ -168,9 +219,28 @@ def of_other(command, store, old, name, new):
         back = first_lack(new, old)
         if back is None:
             return words + ' The store is one of a later version of %s; no upgrade leads back.' % name
-        return words + ' No upgrade leads there: it adds models, fields and groups after those that are there.'
+        return words + ' No upgrade leads there: it adds models, fields and groups after those that are there.' + \
+            likeness(old, new)
     words = '%s keeps records of an earlier version: in %s %s.' % (store, name, first_addition(old, new))
     if command == 'upgrade':
         return words + ' The first application of an upgrade is the one that the store was made by.'
     return words + ' ./jac upgrade OLD %s --db %s brings it there, with OLD the application that it was made by.' % (
         name, store)
+
+
+def main(words):
+    import application as applications
+    if len(words) != 1 or words[0] in ('-h', '--help'):
+        print(__doc__)
+        return 0 if words[:1] in (['-h'], ['--help']) else 2
+    try:
+        print(schema_text(of_application(applications.read(words[0]))))
+    except (applications.Fault, fault_place.TreeFault, IndexError, KeyError, AttributeError) as fault:
+        print('schema: %s' % (fault if isinstance(fault, applications.Fault) else
+                              '%s is no application that is served' % words[0]), file=sys.stderr)
+        return 1
+    return 0
+
+
+if __name__ == '__main__':
+    sys.exit(main(sys.argv[1:]))

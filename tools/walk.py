@@ -27,7 +27,7 @@ sys.dont_write_bytecode = True
 sys.path.insert(0, os.path.dirname(os.path.abspath(__file__)))
 import assemble                                                             # noqa: E402
 import audit                                                                # noqa: E402
-import finger                                                               # noqa: E402
+import fault_place                                                          # noqa: E402
 import walk_file                                                            # noqa: E402
 import walk_page                                                            # noqa: E402
 from walk_file import Malformed                                             # noqa: E402
@@ -57,8 +57,8 @@ class Application:
                 file.write(data)
         self.names = audit.Names(data)
         self.models, self.groups = self.names.models, self.names.groups
-        checker = finger.Checker(finger.read_tree(data, list(range(len(data) + 1))))
-        self.fields = [[field.children[0].value for field in finger.fields_in(model).children[1:]]
+        checker = fault_place.Checker(fault_place.read_tree(data, list(range(len(data) + 1))))
+        self.fields = [[field.children[0].value for field in fault_place.fields_in(model).children[1:]]
                        for model in checker.models]
         self.viewer, self.params = checker.viewer.value if checker.viewer else None, {}
         for view in checker.views:
@@ -270,7 +270,7 @@ class Walk:
         try:
             new = Application(step.file, self.store.folder)
             self.store.upgrade(self.application, new)
-        except (OSError, Stopped, finger.TreeFault) as error:
+        except (OSError, Stopped, fault_place.TreeFault) as error:
             raise Malformed(step.place, str(error)) from None
         self.application = new
 
@@ -391,7 +391,7 @@ def walk_all(program, application, walks, sessions, given):
 
 
 def refusal(program, path):
-    """What the program says against an application, with the finger on the place; nothing where it is well."""
+    """What the program says against an application, with its place; nothing where it is well."""
     tools = os.path.join(TOP, 'tools', '')
     is_script = program == [os.path.join(TOP, 'jac')]
     start = [sys.executable, tools + 'run_folder.py'] if os.path.isdir(path) and not is_script else []
@@ -401,7 +401,7 @@ def refusal(program, path):
         return None
     said = done.stdout
     if not is_script:
-        said += subprocess.run([sys.executable, tools + 'finger.py', *program, 'check', path], stdin=subprocess.DEVNULL,
+        said += subprocess.run([sys.executable, tools + 'fault_place.py', *program, 'check', path], stdin=subprocess.DEVNULL,
                                stdout=subprocess.PIPE, stderr=subprocess.STDOUT, check=False).stdout
     return said.decode(errors='replace')
 

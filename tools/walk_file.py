@@ -14,6 +14,7 @@ OF_TEXTS = ('has', 'lacks', 'is')
 OF_LABELS = ('shows', 'hides')
 BEGINNINGS = ('as', 'follow', 'include', 'upgrade') + OF_TEXTS + OF_LABELS
 MOST_INCLUDES = 16
+MOST_NAMES = 12
 
 
 class Malformed(Exception):
@@ -298,7 +299,14 @@ class Reader:
     def need(self, line, *names):
         for name in names:
             if name not in self.known:
-                raise line.bad('nothing is called %s%s' % (name, meant(name, sorted(self.known))))
+                raise line.bad('nothing is called %s%s' % (name, meant(name, sorted(self.known)) or self.names_here()))
+
+    def names_here(self):
+        """The names that a line may speak of, in words."""
+        names = sorted(self.known)
+        if not names:
+            return ': no line before this names a record, as in: ann = as nobody POST /join, and no session has a name'
+        return '; the names here are ' + ', '.join(names[:MOST_NAMES] + ['..'] * (len(names) > MOST_NAMES))
 
 
 def lines(path, texts):

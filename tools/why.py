@@ -27,7 +27,7 @@ sys.dont_write_bytecode = True
 sys.path.insert(0, os.path.dirname(os.path.abspath(__file__)))
 import assemble                                                             # noqa: E402
 import audit                                                                # noqa: E402
-import finger                                                               # noqa: E402
+import fault_place                                                          # noqa: E402
 
 LINE = re.compile(r'(\d+) (\S+) (\d+) (\d+) because (\d+) (\S+) (\d+) (\d+)')
 SHOWN = re.compile(r'shown (-|\d+(?:,\d+)*)')
@@ -40,8 +40,8 @@ class Policies:
 
     def __init__(self, path, data):
         self.path, self.data = path, data
-        models = finger.Checker(finger.read_tree(data, list(range(len(data) + 1)))).models
-        self.groups = [[group.children[-1].children[1] for group in finger.groups_in(model)] for model in models]
+        models = fault_place.Checker(fault_place.read_tree(data, list(range(len(data) + 1)))).models
+        self.groups = [[group.children[-1].children[1] for group in fault_place.groups_in(model)] for model in models]
 
     def told(self, label):
         model, group = label // 8 % 64, label % 8
@@ -49,7 +49,7 @@ class Policies:
             return 'a policy that %s does not have' % self.path
         policy = self.groups[model][group]
         text = self.data[policy.start:policy.end].decode('utf-8', errors='replace')
-        place = finger.where(self.data, self.path, policy.start).rpartition(':')[0]
+        place = fault_place.where(self.data, self.path, policy.start).rpartition(':')[0]
         return '%s: %s' % (place, ' '.join(text.split()))
 
 

@@ -1,4 +1,3 @@
-#!/usr/bin/env python3
 """Measures the built program over real connections, with one client and with two and ten at once, and over stores in
 files. Words: the program. A time is that which the client waits, the middle of all where nothing else is said; the
 clients are this script, on the same machine. Two and ten clients ask for the same list, of 100 names in a file of SQLite,
@@ -16,10 +15,10 @@ import tempfile
 import threading
 import time
 
-import proved
-from serving import free_port, is_listening, served
+from support import proved
+from support.serving import free_port, is_listening, served
 
-PROGRAM = proved.program(sys.argv[1])
+PROGRAM = ''        # its path, once `main` was called
 SHORT, LONG = 10, 100 * 1024
 APPLICATION = '''(app
  (model User (fields (name text)))
@@ -201,7 +200,9 @@ def over_many_connections(folder):
                 print('left out, as it is not installed: ' + name)
 
 
-def main():
+def main(words):
+    global PROGRAM
+    PROGRAM = proved.program(words[0])
     with tempfile.TemporaryDirectory() as folder:
         with open(os.path.join(folder, 'app'), 'w') as app:
             app.write(APPLICATION)
@@ -209,5 +210,3 @@ def main():
         over_many_connections(folder)
         over_a_store(folder)
 
-
-main()

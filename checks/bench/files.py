@@ -1,4 +1,3 @@
-#!/usr/bin/env python3
 """Measures what is meant to cost in proportion to its length: the check of an application, and the bytes of
 connections. Words: the program, and parts of the names of the series that are wanted, or none for all. Each series has
 several sizes, each four times the one before where no limit ends it; the growth is that of the seconds over that of the
@@ -14,8 +13,8 @@ import tempfile
 import threading
 import time
 
-import proved
-from serving import served
+from support import proved
+from support.serving import served
 
 KB, MB = 1024, 1024 * 1024
 SIZES = [64 * KB, 256 * KB, MB - KB]
@@ -281,8 +280,8 @@ def read_replies(line, count):
     return replies
 
 
-def main():
-    program, wanted = proved.program(sys.argv[1]), sys.argv[2:]
+def main(words):
+    program, wanted = proved.program(words[0]), words[1:]
     table = Table()
     with tempfile.TemporaryDirectory() as folder, concurrent.futures.ProcessPoolExecutor(1) as pool:
         runs = Runs(pool, program, folder)
@@ -290,7 +289,3 @@ def main():
             for series in all_series:
                 if not wanted or any(word in series[0] for word in wanted):
                     measure(runs, table, *series)
-
-
-if __name__ == '__main__':
-    main()

@@ -1,12 +1,11 @@
-#!/usr/bin/env python3
 """Counts the instructions that guarded lists and POSTs take, by how many events there are. Words: the program, and the
-numbers of events, or none for 256, 1,024, 4,096 and 16,384. The requests are those of `bench.py`: the host of all events
+numbers of events, or none for 256, 1,024, 4,096 and 16,384. The requests are those of `bench times`: the host of all events
 is shown all labels, nobody none; a list is asked again and again, and then anew behind a `POST` of nobody. A request costs
 what a run with some more of them takes less that of a run with two, divided by how many these are: four of a list, and 64
 of a `POST`, of which one now and then has the store find more room.
 
 valgrind counts, so a figure is the same from run to run, whatever else the machine does; what its caches do to it isn't
-counted, for which `bench.py` has the times. Last stand the bars. docs/COSTS.md has what it said last, with its date. It is
+counted, for which `bench times` has the times. Last stand the bars. docs/COSTS.md has what it said last, with its date. It is
 no part of the gate."""
 import concurrent.futures
 import os
@@ -16,8 +15,8 @@ import subprocess
 import sys
 import tempfile
 
-import proved
-from bench import GUARDED, GUARDED_ASKED, bar, guarded
+from support import proved
+from bench.times import GUARDED, GUARDED_ASKED, bar, guarded
 
 SIZES = [256, 1024, 4096, 16384]
 BARRED = 1024, 4096     # from these on to four times as many
@@ -49,9 +48,9 @@ def request(program, folder, name, count, asked):
     return (many - few) / more
 
 
-def main():
-    program = proved.binary(sys.argv[1])
-    sizes = [int(word) for word in sys.argv[2:]] or SIZES
+def main(words):
+    program = proved.binary(words[0])
+    sizes = [int(word) for word in words[1:]] or SIZES
     if shutil.which('valgrind') is None:
         sys.exit('there is no valgrind here')
     took = {}
@@ -71,7 +70,3 @@ def main():
         for count in BARRED:
             both = (took.get((name, count)), took.get((name, 4 * count)))
             bar('%s, from %d to %d' % (name, count, 4 * count), both[1] / both[0] if all(both) else None, GROWTH)
-
-
-if __name__ == '__main__':
-    main()

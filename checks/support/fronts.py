@@ -13,9 +13,9 @@ import threading
 import time
 import urllib.parse
 
-from serving import HOST, is_listening
+from support.serving import HOST, is_listening
 
-TOP = os.path.dirname(os.path.dirname(os.path.abspath(__file__)))
+TOP = os.path.dirname(os.path.dirname(os.path.dirname(os.path.abspath(__file__))))
 DEPLOY = os.path.join(TOP, 'deploy')
 CALENDAR = os.path.join(TOP, 'examples', 'calendar', 'app')
 PASSWORDS = {'ann': 'for ann', 'bob': 'for bob', 'eve': 'for eve'}

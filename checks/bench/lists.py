@@ -1,7 +1,6 @@
-#!/usr/bin/env python3
 """Measures the guarded lists of examples/calendar and examples/conference, and the POST that adds a record to each, beside
 Flask with checks written by hand. Words: the program, and the numbers of records, or none for 64, 1,024 and 4,096. The
-records are those of `bench_records.py`, made by a view that is added to the application, in memory and over the file of a
+records are those of `bench records`, made by a view that is added to the application, in memory and over the file of a
 store. Round by round the one who hosts or wrote all adds a record, and asks for the list twice, once behind the `POST`
 and once again; a time is what the program takes of a processor, the least of all rounds, without what it waits for a
 disk. Flask makes the same records and pages, byte for byte, from SQLite in memory or in a file, by its test client, each
@@ -17,11 +16,11 @@ import sys
 import tempfile
 import time
 
-import proved
-from bench import bar
-from bench_examples import id_of
-from bench_records import ONE, Calendar, Conference, Line, known, made, requests_for, write_app
-from serving import served
+from support import proved
+from bench.times import bar
+from bench.examples import id_of
+from bench.records import ONE, Calendar, Conference, Line, known, made, requests_for, write_app
+from support.serving import served
 
 SIZES = [64, 1024, 4096]
 BARRED = 1024, 4096
@@ -198,9 +197,9 @@ def has_flask():
     return False
 
 
-def main():
-    program = proved.program(sys.argv[1])
-    sizes = [int(word) for word in sys.argv[2:]] or SIZES
+def main(words):
+    program = proved.program(words[0])
+    sizes = [int(word) for word in words[1:]] or SIZES
     ratios = {}
     print('%-11s %7s  %-7s %-12s %10s %10s %7s' % ('application', 'records', 'where', 'asked', 'ms', 'Flask ms', 'ratio'))
     for kind in (Events, Papers):
@@ -223,7 +222,3 @@ def row(kind, count, where, name, ours, theirs):
     other = '%10.3f %7.2f' % (1e3 * theirs, ours / theirs) if theirs else '%10s %7s' % ('-', '-')
     print('%-11s %7d  %-7s %-12s %10.3f %s' % (kind.name, count, where, name, 1e3 * ours, other), flush=True)
     return ours / theirs if theirs else None
-
-
-if __name__ == '__main__':
-    main()

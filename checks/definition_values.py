@@ -1,11 +1,11 @@
 """Evaluates closed terms of specs/: the part of the logic that definitions by cases are written in, with numbers, lists,
-records and functions, and the words of std that they name. No proof rests on it; `turned.py` asks it what examples come to
+records and functions, and the words of std that they name. No proof rests on it; `mutate_definitions.py` asks it what examples come to
 when a definition is turned."""
 import os
 import re
 import sys
 
-from pages import TOP, read
+from support.pages import TOP, read
 
 sys.setrecursionlimit(100000)
 TOKEN = re.compile(r'"(?:[^"\\]|\\.)*"|0x[0-9A-F_]+|◌[^\s(){},;]+◌|\.(?=[01]\b)|[\w\'₀-₉]+(?:[.-](?=[\w])[\w]+)*|\+ℤ|-ℤ|\*ℤ|\+\+|&&|\|\||==|'

@@ -4,7 +4,7 @@ import os
 import subprocess
 import sys
 
-TOP = os.path.dirname(os.path.dirname(os.path.abspath(__file__)))
+TOP = os.path.dirname(os.path.dirname(os.path.dirname(os.path.abspath(__file__))))
 PROVED = os.path.join(TOP, 'crates', 'jac_main', 'out', 'jac_main')
 TRIALS = os.path.join(TOP, 'out', '')
 
@@ -12,6 +12,14 @@ TRIALS = os.path.join(TOP, 'out', '')
 def is_script(path):
     with open(path, 'rb') as file:
         return file.read(2) == b'#!'
+
+
+def first_word():
+    """The script's first word. Without one, or where it asks for help, the script says what it is and ends."""
+    if len(sys.argv) > 1 and sys.argv[1] not in ('-h', '--help'):
+        return sys.argv[1]
+    print(sys.modules['__main__'].__doc__)
+    sys.exit(0 if len(sys.argv) > 1 else 2)
 
 
 def program(word):

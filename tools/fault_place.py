@@ -1,11 +1,13 @@
 #!/usr/bin/env python3
-"""Puts a finger on the place that the line of a refused application means.
+"""Shows the place that the line of a refused application means.
 
-Words: the program, and the application's file or folder. The program is asked for its line (`check`), the same text is read
-once more here, and where both find the same fault, standard error shows the file, the line and the column, the text
-with a mark under it, and in words what was expected and what stands there. It changes nothing: the line, the status
-and whatever is stored are the program's alone. Where the two readings don't agree, nothing is shown. Of a folder the place
-is that in its part."""
+Words: `--status N`, if the run's exit status is known, the program, and the words of its command. The program is asked
+for its line (`check`), the same text is read once more here, and where both find the same fault, standard error shows the
+file, the line and the column, the text with a mark under it, and in words what was expected and what stands there. It
+changes nothing: the line, the status and whatever is stored are the program's alone. Where the two readings don't agree,
+nothing is shown. Of a folder the place is that in its part. So it is with lines of the sessions and of the events, with
+words of the command, and with a store that isn't one of the application or is refused."""
+import itertools
 import os
 import re
 import subprocess
@@ -18,6 +20,7 @@ sys.path.insert(0, os.path.dirname(os.path.abspath(__file__)))
 import assemble                                                             # noqa: E402
 import commands                                                             # noqa: E402
 import meanings                                                             # noqa: E402
+import run_lines                                                            # noqa: E402
 
 LIMIT = 1048576
 EXPRESSIONS = ['get', 'live', 'add', 'sub', 'mul', 'eq', 'lt', 'and', 'or', 'not', 'cat', 'str', 'pick', 'count', 'sum',
@@ -90,9 +93,9 @@ class FormFault(Exception):
 
 
 class CheckFault(Exception):
-    def __init__(self, node, cause, words=None):
+    def __init__(self, node, cause, words=None, notes=()):
         super().__init__(cause)
-        self.node, self.cause, self.words = node, cause, words
+        self.node, self.cause, self.words, self.notes = node, cause, words, notes
 
 
 class Node:
@@ -666,7 +669,7 @@ class Checker:
             test(*words)
         except CheckFault as fault:
             raise Fault('app: %s: %s' % (place, fault.cause), fault.node.start, fault.node.end,
-                        fault.words or '') from None
+                        fault.words or '', fault.notes) from None
 
     # names
 
@@ -946,11 +949,29 @@ class Checker:
             raise CheckFault(node, word + ' may not stand here', 'a public value has no names: it reads (get M F this)')
         found = scope.look_up(word)
         if found is None:
-            known = [name for name, _, _ in scope.names]
-            close = nearest(word, known)
-            raise CheckFault(node, 'unknown name ' + word, 'nothing here is called %s%s; there is %s' % (
-                word, '; is it %s?' % close if close else '', ', '.join(dict.fromkeys(known)) or 'no name'))
+            raise self.nameless(node, scope)
         return found[0]
+
+    def nameless(self, node, scope):
+        """The fault of a name that nothing has here: where it was lost, or what it may mean, and the names that there are."""
+        word, known = node.value, list(dict.fromkeys(name for name, _, _ in scope.names))
+        cause, close = 'unknown name ' + word, nearest(word, known)
+        around = next((item for item in self.models + self.views if item.start <= node.start < item.end), None)
+        binding = binding_of(around, node) if around else None
+        if binding:
+            lost, places = binding.lost(node)
+            return CheckFault(node, cause, 'nothing here is called %s: %s; %s' % (
+                word, lost, self.names_here(known, scope)), places)
+        hint = '; is it %s?' % close if close else self.field_hint(word)
+        return CheckFault(node, cause, 'nothing here is called %s%s; %s' % (word, hint, self.names_here(known, scope)))
+
+    def field_hint(self, word):
+        model = next((model for model in self.fields if word in self.fields[model]), None)
+        return model and '; it is a field of %s, which (get %s %s ..) reads of a record' % (model, model, word) or ''
+
+    def names_here(self, known, scope):
+        known = known + ['viewer'] * (self.viewer is not None) + ['this'] * (scope.this is not None)
+        return 'there is ' + (', '.join(known) or 'no name')
 
     def operation(self, node, word, parts, kinds):
         if word in ('add', 'sub', 'mul', 'and', 'or'):
@@ -976,6 +997,62 @@ class Checker:
         self.want('bool', kinds[0], parts[0], 'the condition of pick')
         self.want(kinds[1], kinds[2], parts[2], 'what stands before it in pick')
         return kinds[1]
+
+
+class Binding:
+    """A form that binds names for what stands inside of it. One of a template has no bracket at its end."""
+
+    def __init__(self, form, is_tag):
+        self.form, self.is_tag = form, is_tag
+
+    def names(self):
+        word, parts = self.form.head(), self.form.children[1:]
+        if word in ('create', 'let'):
+            return [parts[0].value]
+        query = parts[0] if word == 'for' else self.form
+        if query.head() != 'from' or len(query.children) < 4:
+            return []
+        return [binder.children[0].value for binder in query.children[1].children]
+
+    def lost(self, node):
+        """What to say of the name where it is asked for outside of the form, and the places that the form has."""
+        word = {'from': 'query'}.get(self.form.head(), self.form.head())
+        begins = (self.form.start, 'this %s has it' % word)
+        if self.form.start < node.start < self.form.end:
+            return 'the %s that has this name binds it for what comes after that' % word, [begins]
+        if node.start < self.form.start:
+            return 'the %s that has this name begins further on, and only what stands inside of it knows the name' % word, \
+                [begins]
+        ends = [] if self.is_tag else [(self.form.end - 1, 'and ends with this bracket')]
+        return 'the %s that has this name ended before, and only what stands inside of it knows the name' % word, \
+            [begins, *ends]
+
+
+def binding_of(around, node):
+    """The last form of a model or a view that binds a name before it is asked for, or else the first one, or None."""
+    found = [one for one in bindings_in(around) if node.value in one.names()]
+    before = [one for one in found if one.form.start < node.start]
+    return (before[-1:] or found[:1] or [None])[0]
+
+
+def bindings_in(node):
+    """The forms below a tree that bind names, in the order of the text; those of templates too."""
+    left = [(node, False)]
+    while left:
+        one, is_tag = left.pop()
+        word, parts = one.head(), one.children[1:]
+        if word == 'template' and len(parts) == 1 and parts[0].kind == 'text':
+            left += [(child, True) for child in reversed(statements_of(parts[0]))]
+            continue
+        if word in OPERANDS_OF_BINDERS and len(parts) >= OPERANDS_OF_BINDERS[word]:
+            yield Binding(one, is_tag)
+        # the query of a for is a part of it
+        below = parts[0].children[1:] + parts[1:] if word == 'for' and parts else one.children
+        left += [(child, is_tag) for child in reversed(below)]
+
+
+# the forms that bind names, and the operands that they have at least; a field may have such a name too
+OPERANDS_OF_BINDERS = {'create': 3, 'let': 2, 'for': 1, 'from': 3}
 
 
 def statements_of(node):
@@ -1178,7 +1255,7 @@ def shown_fault(data, name, fault):
     return '\n'.join(lines)
 
 
-def finger(data, line):
+def fault_of_line(data, line):
     """The fault that the line tells, or None where this reading doesn't find that very line."""
     try:
         fault = fault_of(data, line)
@@ -1225,7 +1302,7 @@ def further(program, data, name, fault):
     """The faults that the program tells once what has the first one is taken out, and so on, each place once: a part
     of a folder may be in several views."""
     whole, found, known = data, [], {where(data, name, fault.start)}
-    with tempfile.NamedTemporaryFile(prefix='jac-finger-') as file:
+    with tempfile.NamedTemporaryFile(prefix='jac-fault-') as file:
         for _ in range(MOST_ASKED):
             unit = unit_of(data, fault.start)
             if unit is None:
@@ -1236,7 +1313,7 @@ def further(program, data, name, fault):
             file.write(data)
             file.flush()
             line = refusal(program, file.name)
-            fault = finger(data, line) if line else None
+            fault = fault_of_line(data, line) if line else None
             if not fault or len(found) == MOST_FURTHER:
                 break
             place = where(whole, name, fault.start)
@@ -1248,7 +1325,7 @@ def further(program, data, name, fault):
 
 def report(program, data, name, line):
     """The fault of the program's line as it is shown, and those that come after it; or nothing."""
-    fault = finger(data, line)
+    fault = fault_of_line(data, line)
     if not fault:
         return ''
     shown = [shown_fault(data, name, fault)]
@@ -1295,11 +1372,14 @@ def refusal(program, name):
 
 
 def main(words):
+    status, words = (int(words[1]), words[2:]) if words[:1] == ['--status'] else (None, words)
     wrong = commands.fault(words[1:])
     if wrong:
-        print('jac: ' + wrong, file=sys.stderr)
+        tell(wrong)
         return
     for name in applications_in(words[1:]):
+        if not os.path.isfile(name) and not os.path.isdir(name):
+            return
         try:
             data = assemble.read(name)
         except (OSError, assemble.Fault):
@@ -1310,9 +1390,68 @@ def main(words):
             if told:
                 print(told, file=sys.stderr)
             return
-    told = told_of_store(words[1:])
+    told = told_of_lines(words[0], words[1:]) if status in (None, LINES_REFUSED) else ''
     if told:
-        print('jac: ' + told, file=sys.stderr)
+        print(told, file=sys.stderr)
+        return
+    told = told_of_store(words[1:]) if status in (None, *OTHER_SCHEMAS) else ''
+    if not told and (status == STORE_FAULT or status is None and words[1:2] == ['serve']):
+        told = told_of_fault(words[1:], is_refused=status is not None)
+    if told:
+        tell(told)
+
+
+def tell(words):
+    print('jac: ' + words, file=sys.stderr)
+
+
+LINES_REFUSED, STORE_FAULT, OTHER_SCHEMAS = 3, 6, (9, 11)
+MOST_LINES = 1 << 24    # bytes of the longest file of events
+
+
+def told_of_lines(program, words):
+    """The first line of the sessions, or else of the events, that the program refuses, and further ones; or nothing."""
+    return told_of_sessions(program, commands.value_of(words, '--sessions')) or \
+        shown_lines(program, commands.events(words), run_lines.faults_of_events, lambda name: ['--', name])
+
+
+def told_of_sessions(program, name):
+    return shown_lines(program, name, run_lines.faults_of_sessions, lambda name: ['/dev/null', '--sessions=' + name])
+
+
+def shown_lines(program, name, reader, words_of):
+    """The faults of a file of lines as they are shown, where the program says of the first one what is said here."""
+    if not name or not os.path.isfile(name) or os.path.getsize(name) > MOST_LINES:
+        return ''
+    try:
+        with open(name, 'rb') as file:
+            data = file.read()
+    except OSError:
+        return ''
+    faults = list(itertools.islice(reader(data), 1 + MOST_FURTHER))
+    if not faults or last_line(program, words_of(name)) != faults[0].line:
+        return ''
+    shown = ['%s: %s\n%s' % (where(data, name, one.start), one.words, marked(data, one.start, one.end)) for one in faults]
+    return '\n'.join(shown[:1] + ['and further on:'] * (len(shown) > 1) + shown[1:])
+
+
+def last_line(program, words):
+    """The last line that the program puts where an application without views is given these words."""
+    with tempfile.NamedTemporaryFile(prefix='jac-fault-') as app, tempfile.TemporaryFile() as out:
+        app.write(b'(app)')
+        app.flush()
+        replay = ['replay', app.name, *words] if words[0] != '--' else ['replay', '--', app.name, *words[1:]]
+        subprocess.run([program, *replay], stdin=subprocess.DEVNULL, stdout=out, stderr=subprocess.DEVNULL, check=False)
+        out.seek(-min(256, out.tell()), os.SEEK_CUR)
+        return out.read().decode('utf-8', 'replace').rstrip('\n').rpartition('\n')[2]
+
+
+def told_of_fault(words, is_refused):
+    """What is the matter with the store that the program refused, or may be about to, or nothing."""
+    import store_faults
+    store = commands.value_of(words, '--db')
+    most = store_faults.MOST_COPIED if is_refused else store_faults.MOST_COPIED_BEFORE
+    return store_faults.told(store, most) if store else ''
 
 
 def told_of_store(words):

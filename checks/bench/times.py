@@ -1,4 +1,3 @@
-#!/usr/bin/env python3
 """Measures the built program. Words: the program, and the numbers of records, or none for 256, 1024 and 4096, and for
 1024, 4096 and 16384 guarded ones.
 
@@ -18,7 +17,7 @@ import sys
 import tempfile
 import time
 
-import proved
+from support import proved
 
 SIZES = [256, 1024, 4096]
 GUARDED_SIZES = [1024, 4096, 16384]
@@ -308,9 +307,9 @@ def bar(text, value, most):
         print('%s: %s: %.2f, at most %.2f' % ('held' if value <= most else 'BROKEN', text, value, most))
 
 
-def main():
-    program = proved.program(sys.argv[1])
-    sizes = [int(word) for word in sys.argv[2:]] or SIZES
+def main(words):
+    program = proved.program(words[0])
+    sizes = [int(word) for word in words[1:]] or SIZES
     with tempfile.TemporaryDirectory() as folder, concurrent.futures.ProcessPoolExecutor(1) as pool:
         bench = Bench(pool, program, folder, APPLICATION, stored)
         table = Table(flask_times(sizes))
@@ -329,7 +328,7 @@ def main():
                 if took > MOST / 16:
                     slow.add(name)
         peaks = measure_crossed(Bench(pool, program, folder, APPLICATION, crossed), table)
-        labelled = [int(word) for word in sys.argv[2:]] or GUARDED_SIZES
+        labelled = [int(word) for word in words[1:]] or GUARDED_SIZES
         measure_guarded(Bench(pool, program, folder, GUARDED, guarded), table, labelled)
         for count in DEMOS:
             table.line('demo, whole', None, count, *bench.best_of([program, 'demo', str(count)]))
@@ -386,7 +385,3 @@ def guarded_bars(table, sizes):
         growth_bars(table, name, sizes)
     for count, most in DEMOS.items():
         bar('demo %d, seconds' % count, table.took['demo, whole', count], most)
-
-
-if __name__ == '__main__':
-    main()

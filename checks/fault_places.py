@@ -1,5 +1,5 @@
 #!/usr/bin/env python3
-"""Damages applications in known places, and looks whether the finger (tools/finger.py) that stands beside the line of a
+"""Damages applications in known places, and compares the message (tools/fault_place.py) that stands beside the line of a
 refused application points there. Words: the program, and a seed (1). Prints each that is wrong, and ends with a count.
 
 The applications are the examples. Of each damage the file, the line and the column are known from where it was made;
@@ -15,10 +15,10 @@ import tempfile
 
 sys.dont_write_bytecode = True
 TOP = os.path.dirname(os.path.dirname(os.path.abspath(__file__)))
-FINGER = os.path.join(TOP, 'tools', 'finger.py')
-SPEC = importlib.util.spec_from_file_location('finger', FINGER)
-finger = importlib.util.module_from_spec(SPEC)
-SPEC.loader.exec_module(finger)
+SCRIPT = os.path.join(TOP, 'tools', 'fault_place.py')
+SPEC = importlib.util.spec_from_file_location('fault_place', SCRIPT)
+fault_place = importlib.util.module_from_spec(SPEC)
+SPEC.loader.exec_module(fault_place)
 
 PROGRAM = os.path.abspath(sys.argv[1])
 WANTED = 10
@@ -26,7 +26,7 @@ OPERATIONS = {'add', 'sub', 'mul', 'eq', 'lt', 'and', 'or'}
 
 
 def tree_of(data):
-    return finger.read_tree(data, list(range(len(data) + 1)))
+    return fault_place.read_tree(data, list(range(len(data) + 1)))
 
 
 def nodes(tree):
@@ -57,8 +57,8 @@ def lost_brackets(data, tree):
     """The last bracket of a list is missing, and its neighbour begins the next line in the same column."""
     for node in nodes(tree):
         for one, behind in zip(node.children, node.children[1:]):
-            if one.kind == 'list' and finger.begins_its_line(data, one.start) and finger.begins_its_line(data, behind.start) \
-                    and finger.column_of(data, one.start) == finger.column_of(data, behind.start):
+            if one.kind == 'list' and fault_place.begins_its_line(data, one.start) and fault_place.begins_its_line(data, behind.start) \
+                    and fault_place.column_of(data, one.start) == fault_place.column_of(data, behind.start):
                 yield without(data, one.end - 1, one.end), one.start
 
 
@@ -82,7 +82,7 @@ def operands_too_few(data, tree):
 
 def unknown_forms(data, tree):
     for node in nodes(tree):
-        if node.head() in finger.EXPRESSIONS and len(node.children) > 1 and node.head() != 'none':
+        if node.head() in fault_place.EXPRESSIONS and len(node.children) > 1 and node.head() != 'none':
             yield with_text(data, node.children[0].start, node.children[0].end, b'len'), node.start
 
 
@@ -98,7 +98,7 @@ def quotes_in_tags(data, tree):
     for node in nodes(tree):
         if node.head() == 'template':
             text, places = node.children[1].value, node.children[1].places
-            for tag in finger.tags_of(text):
+            for tag in fault_place.tags_of(text):
                 found = re.search(rb'"([^"\\]*)"', text[tag.start:tag.end])
                 if found:
                     first, second = places[tag.start + found.start()], places[tag.start + found.end() - 1]
@@ -111,7 +111,7 @@ def lost_ends(data, tree):
         if node.head() != 'template':
             continue
         text, places, outer, depth = node.children[1].value, node.children[1].places, None, 0
-        for tag in finger.tags_of(text):
+        for tag in fault_place.tags_of(text):
             word = re.match(rb'\s*\(?\s*([a-z]+)', text[tag.start:tag.end])
             word = word.group(1) if word and tag.kind == 'control' else b''
             if word in (b'if', b'for', b'let'):
@@ -142,7 +142,7 @@ def unknown_fields(data, tree):
 def unknown_kinds(data, tree):
     for model in tree.children:
         if model.head() == 'model':
-            for field in finger.fields_in(model).children[1:]:
+            for field in fault_place.fields_in(model).children[1:]:
                 if field.children[1].kind == 'atom':
                     yield with_text(data, field.children[1].start, field.children[1].end, b'string'), field.children[1].start
 
@@ -175,14 +175,15 @@ def comments(data, tree):
 def twice_named(data, tree):
     for model in tree.children:
         if model.head() == 'model':
-            field = finger.fields_in(model).children[1]
-            at = finger.fields_in(model).end - 1
+            field = fault_place.fields_in(model).children[1]
+            at = fault_place.fields_in(model).end - 1
             yield with_text(data, at, at, b' ' + data[field.start:field.end]), at + 2
 
 
 # What is said of a text in the reader's words: the program's line has its code, and these have the place and the words.
 
 VIEW = '(app (model User (fields (name text) (age int)))\n (view get "/" (params (j int))\n  %s))'
+LOST = '(app (viewer User)\n (model User (fields (name text)))\n (view post "/" (params (years int))\n  %s))'
 TAG = VIEW % '(template "%s")'
 MESSAGES = [
     ('(app (view get "/" (params) (put "a"))\n (model User (fields (name text))))', '2:2', 'models come before views'),
@@ -201,6 +202,15 @@ MESSAGES = [
     (VIEW % '(put (exists (from ((u User)) true key)))', '3:8', 'there is no expression exists; is it some?'),
     (VIEW % '(put (length j))', '3:8', 'there is no expression length; is it count?'),
     (VIEW % '(put (gt j 1))', '3:8', 'is it lt with its operands turned round?'),
+    (LOST % '(create ann User (set (name "a")) (put ann)) (put ann)', '4:53',
+     'nothing here is called ann: the create that has this name ended before, and only what stands inside of it knows '
+     'the name; there is years, viewer'),
+    (LOST % '(put ann) (create ann User (set (name "a")))', '4:8', 'the create that has this name begins further on'),
+    (LOST % '(create ann User (set (name (get User name ann))))', '4:46', 'binds it for what comes after that'),
+    (LOST % '(template "{% (let x 1) %}{{ x }}{% end %}{{ x }}")', '4:48', 'the let that has this name ended before'),
+    (LOST % '(if (some (from ((u User)) true key)) ((put u)) ())', '4:47', 'the query that has this name ended before'),
+    (LOST % '(put name)', '4:8', 'nothing here is called name; it is a field of User, which (get User name ..) reads'),
+    (LOST % '(put yeas)', '4:8', 'nothing here is called yeas; is it years?; there is years, viewer'),
     (VIEW % '(put (frobnicate j))', '3:8', 'there is no expression frobnicate; the forms'),
     (VIEW % '(print "a")', '3:3', 'there is no statement print; is it put?'),
     (VIEW % '(putt "a")', '3:3', 'there is no statement putt; is it put?'),
@@ -238,6 +248,7 @@ COMMANDS = [
     ('replay a b --db', '--db takes the name of a file'), ('replay a b --db --lazy', '--db takes the name of a file'),
     ('replay a b --db=', '--db takes the name of a file, and this one is empty'), ('replay a b -x',
                                                                                    'there is no option -x'),
+    ('serve a 80a 0', 'PORT is a number from 1 to 65535, and not 80a; and COUNT, how many connections are served, is'),
     ('serve a 80a 1', 'PORT is a number from 1 to 65535, and not 80a'), ('serve a 080 1', 'PORT is a number'),
     ('serve a 65536 1', 'PORT is a number'), ('serve a 80 0', 'COUNT, how many'), ('demo 2001', 'N, how many'),
     ('demo', 'N is missing'), ('why a b', 'VIEWER is the number of a record'), ('why a b --audit x',
@@ -265,7 +276,18 @@ STORES = [
     (WIDE, 'dump next -', WIDE.replace('(guards (age 0))', 'hides'), 'group 1 of User hides its records'),
     (NARROW, 'dump next -', NARROW.replace('User', 'Person'), 'model 1 is Person where it was User'),
     (NARROW, 'dump next -', NARROW.replace('User ', 'User nested '), 'the model User is nested where it was not'),
-    (WIDE, 'upgrade app next', NARROW, 'next does not extend app: the field age of User is missing'),
+    (WIDE, 'upgrade app next', NARROW, 'next does not extend app: the field age of User is missing. An upgrade adds models, '
+     'fields and groups after those that are there. It looks as if the field age of User was removed: leave it'),
+    (WIDE, 'upgrade app next', WIDE.replace('age', 'years'), 'It looks as if the field age of User was renamed to years'),
+    (WIDE, 'upgrade app next', WIDE.replace('(name text) (age int)', '(age int) (name text)'),
+     'It looks as if the order was changed: put the field name of User back in its place'),
+    (NARROW, 'upgrade app next', NARROW.replace('(name', '(mail text) (name'),
+     'It looks as if the field mail of User was put in before others: put it after them'),
+    (NARROW, 'dump next -', NARROW.replace('User', 'Person'), 'It looks as if the model User was renamed to Person'),
+    (NARROW, 'dump next -', NARROW.replace('(model User', '(model Event (fields (title text))) (model User'),
+     'It looks as if the model Event was put in before others: put it after them'),
+    (NARROW, 'dump next -', '(app (model Event (fields (title text))))',
+     'It looks as if the model User was removed: leave it in its place'),
     (WIDE, 'upgrade next app', NARROW, 'store is a store of app already'),
     (WIDE, 'dump next -', WIDE.replace('true', 'false'), ''),
 ]
@@ -273,6 +295,43 @@ STORES = [
 DAMAGES = [lost_brackets_of_items, lost_brackets, brackets_too_many, operands_too_many, operands_too_few, unknown_forms,
            unknown_statements, quotes_in_tags, lost_ends, ends_too_many, unknown_fields, unknown_kinds, unknown_models,
            policies_of_numbers, conditions_of_texts, comments, twice_named]
+
+
+# Sessions that the program refuses: the line and the column of what is wrong, and what is said of it.
+SESSIONS = [
+    (b'ann 4096\nbob Bob\n', '2:5', 'the viewer is the number of a record, or - for nobody, and not Bob'),
+    (b'ann', '1:3', 'the viewer is missing: a line is TOKEN VIEWER'), (b'ann ', '1:4', 'the viewer is missing'),
+    (b'ann  4096', '1:4', 'one space stands before the viewer, and here are more'),
+    (b'ann\t4096', '1:4', 'a tab stands here'), (b'ann=4096', '1:4', 'one space stands between the token and the viewer'),
+    (b'ann 4096 x', '1:9', 'the line ends after the viewer'), (b'ann 4096 ', '1:9', 'the line ends with white space'),
+    (b' ann 4096', '1:1', 'the line begins with white space'), (b'# who is who\nann 1', '1:1', 'there are no comments'),
+    (b'ann 4096\r\n', '1:9', 'the line ends with a carriage return'), (b'a.b 1', '1:2', 'and not .'),
+    (b'a' * 129 + b' 1', '1:1', 'a token has at most 128 characters, and this one has 129'),
+    (b'\xef\xbb\xbfann 4096\n', '1:1', 'a byte order mark'), (b'ann -4096', '1:5', 'and not -4096'),
+    (b'ann ' + str(2 ** 128).encode(), '1:5', 'is below 2^128'), (b'ann 0' + b'0' * 39, '1:5', 'at most 39 digits'),
+]
+EVENTS = [
+    (b'say - GET "/" ""', '1:1', 'a line begins with ask, open, data or end, and not with say'),
+    (b'Ask - GET "/" ""', '1:1', 'is it ask?'), (b'hello', '1:1', 'and not with hello'),
+    (b'\nask', '2:3', 'the viewer is missing: the line is ask VIEWER METHOD'),
+    (b'ask ann GET "/" ""', '1:5', 'the viewer is the number of a record, or - for nobody, and not ann'),
+    (b'ask - get "/" ""', '1:7', 'a method has capital letters alone: GET, and not get'),
+    (b'ask - ABCDEFGHIJKLMNOP "/" ""', '1:7', 'at most 15 letters'),
+    (b'ask - GET /', '1:11', 'the path stands in double quotes'), (b'ask - GET "x" ""', '1:11', 'a path begins with /'),
+    (b'ask - GET "/"', '1:13', 'the body, which is "" where there is none, is missing'),
+    (b'ask - GET "/" x', '1:15', 'stands in double quotes'), (b'ask - GET  "/" ""', '1:10', 'and here are more'),
+    (b'ask - GET "/\\q" ""', '1:13', 'after a backslash stands n, r,'), (b'ask - GET "/\\xff" ""', '1:11', 'is UTF-8'),
+    (b'ask - GET "/" "a', '1:15', 'has no second quote on this line'), (b'ask - GET "/" "" x', '1:17', 'ends after the body'),
+    (b'open one', '1:6', 'N, which tells connections apart, is a number, and not one'),
+    (b'open 4294967296', '1:6', 'N is below 2^32'), (b'open 1\ndata 1 x\n', '2:8', 'stands in double quotes'),
+    (b'data 7 "x"', '1:1', 'no line has begun connection 7: write open 7 before this'),
+    (b'open 1\n\nopen 1\n', '3:1', 'connection 1 is open since line 1'),
+    (b'open 1\nend 1\nend 1\n', '3:1', 'connection 1 ended in line 2'),
+    (b'ask - GET "/" ""\r\n', '1:17', 'the line ends with a carriage return'),
+]
+# and such that it takes
+LINES_TAKEN = [(b'', b''), (b'-_ 0\n\nann -\nann 7', b'ask - GET "\\x2f" "\xff\\""\nopen 0\ndata 0 ""\nend 0\nopen 0'),
+               (b'a' * 128 + b' ' + str(2 ** 128 - 1).encode(), b'ask ' + b'0' * 35 + b'4096 QQQQQQQQQQQQQQQ "/" ""\n\n')]
 
 
 def expected(name, out, err, want):
@@ -314,6 +373,39 @@ def commands(folder):
         yield None if status(folder, line.split()) == 4 else 'the program refuses the words ' + line
 
 
+def refused_lines(folder):
+    """Of each refused file the place and the words, and of several wrong lines each."""
+    names = {'sessions': (SESSIONS, ['replay', 'damaged.app', 'none', '--sessions', 'lines']),
+             'events': (EVENTS, ['replay', 'damaged.app', 'lines'])}
+    for kind, (cases, words) in names.items():
+        for data, place, want in cases:
+            yield expected_lines(folder, '%s %r' % (kind, data), data, words, 'lines:%s: ' % place, want)
+    wrong = b'ann\nbob 8192\ncy Cy\n' + b'dan\n' * 9
+    have = re.findall(r'(?m)^lines:(\d+):', said_of_lines(folder, wrong, names['sessions'][1])[1])
+    yield None if have == ['1', '3', '4', '5', '6', '7'] else 'several lines: the lines %s are told' % have
+    for sessions, events in LINES_TAKEN:
+        with open(os.path.join(folder, 'taken'), 'wb') as file:
+            file.write(sessions)
+        words = ['replay', 'damaged.app', 'lines', '--sessions', 'taken']
+        yield expected('taken lines', *said_of_lines(folder, events, words), '')
+        yield None if status(folder, words) == 0 else 'the program refuses %r or %r' % (sessions, events)
+
+
+def said_of_lines(folder, data, words):
+    with open(os.path.join(folder, 'lines'), 'wb') as file:
+        file.write(data)
+    with open(os.path.join(folder, 'none'), 'wb'):
+        pass
+    return said(folder, b'(app)', words=words)
+
+
+def expected_lines(folder, name, data, words, place, want):
+    out, err = said_of_lines(folder, data, words)
+    if out or not err.startswith(place) or want not in err.split('\n')[0]:
+        return '%s: wanted %s%s, and this is said: %s' % (name, place, want, (out + err)[:300])
+    return None if status(folder, words) == 3 else '%s: the program takes it' % name
+
+
 def stores(folder):
     for first, line, second, want in STORES:
         for name, text in ('app', first), ('next', second), ('events', ''):
@@ -332,7 +424,7 @@ def stores(folder):
 def said(folder, data, name='damaged.app', words=('check', 'damaged.app')):
     with open(os.path.join(folder, name), 'wb') as file:
         file.write(data)
-    told = subprocess.run([sys.executable, FINGER, PROGRAM, *words], cwd=folder, stdin=subprocess.DEVNULL,
+    told = subprocess.run([sys.executable, SCRIPT, PROGRAM, *words], cwd=folder, stdin=subprocess.DEVNULL,
                           stdout=subprocess.PIPE, stderr=subprocess.PIPE, check=False)
     return told.stdout.decode(), told.stderr.decode()
 
@@ -354,13 +446,13 @@ def main():
             tries = [(name, *one) for name, data in texts.items() for one in damage(data, tree_of(data))]
             for name, data, at in chance.sample(tries, min(WANTED, len(tries))):
                 out, err = said(folder, data)
-                want = 'damaged.app:%d:%d: ' % finger.line_and_column(data, at)
+                want = 'damaged.app:%d:%d: ' % fault_place.line_and_column(data, at)
                 if not out and err.startswith(want):
                     passed += 1
                 else:
                     print('FAILED %s, %s: wanted %s, and this is said: %s' % (damage.__name__, name, want, err[:300]))
                     failed += 1
-        for wrong in [*messages(folder), *commands(folder), *stores(folder)]:
+        for wrong in [*messages(folder), *commands(folder), *refused_lines(folder), *stores(folder)]:
             if wrong:
                 print('FAILED ' + wrong)
             failed, passed = failed + bool(wrong), passed + (not wrong)

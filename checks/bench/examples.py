@@ -1,4 +1,3 @@
-#!/usr/bin/env python3
 """Measures the lists of the four larger applications in examples/. Words: the program, and the numbers of records that
 the main model of each has, or none for 250, 1,000 and 4,000. The records are made by the application's own forms, spread
 over its users, one for 20 records, and mostly guarded. They are made twice: with policies that are always true in the
@@ -17,15 +16,14 @@ import itertools
 import os
 import re
 import subprocess
-import sys
 import tempfile
 import urllib.parse
 
-import proved
-from bench import bar
-from serving import processor_seconds, served
+from support import proved
+from bench.times import bar
+from support.serving import processor_seconds, served
 
-TOP = os.path.dirname(os.path.dirname(os.path.abspath(__file__)))
+TOP = os.path.dirname(os.path.dirname(os.path.dirname(os.path.abspath(__file__))))
 SIZES = [250, 1000, 4000]
 MOST = 60       # seconds for one page
 FORM = {'Content-Type': 'application/x-www-form-urlencoded'}
@@ -303,16 +301,12 @@ BARS = [
 ]
 
 
-def main():
-    program = proved.program(sys.argv[1])
-    sizes = [int(word) for word in sys.argv[2:]] or SIZES
+def main(words):
+    program = proved.program(words[0])
+    sizes = [int(word) for word in words[1:]] or SIZES
     print('%-11s %7s  %-7s %-16s %6s %9s %9s %9s %8s %7s' % (
         'application', 'records', 'where', 'who asks', 'status', 'seconds', 'again', 'bytes', 'peak MB', 'labels'))
     for make in (calendar, conference, health, courses):
         measure(program, make, sizes)
     for name, count, where, who, most in BARS:
         bar('%s of %d, %s, %s, seconds' % (name, count, where, who), TOOK.get((name, count, where, who)), most)
-
-
-if __name__ == '__main__':
-    main()

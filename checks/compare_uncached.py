@@ -18,7 +18,7 @@ import sys
 import tempfile
 import time
 
-import proved
+from support import proved
 from compare import Maker, written
 
 TOP = os.path.dirname(os.path.dirname(os.path.abspath(__file__)))
@@ -163,7 +163,7 @@ def difference(have, want):
 
 
 def main():
-    program, word = proved.program(sys.argv[1]), sys.argv[2]
+    program, word = proved.program(proved.first_word()), sys.argv[2]
     most, seconds = (None, float(word[:-1])) if word.endswith('s') else (int(word), None)
     seed = first = int(sys.argv[3]) if len(sys.argv) > 3 else int(time.time()) * 1000
     requests = labels = slow = wrong = 0

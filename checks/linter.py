@@ -1,5 +1,5 @@
 #!/usr/bin/env python3
-"""Compares what the second look (tools/look.py), the audit in words (tools/audit.py) and the reasons in words
+"""Compares what the linter (tools/lint.py), the audit in words (tools/audit.py) and the reasons in words
 (tools/why.py) say with what was written down here by hand. Words: the program, or none. Prints each that is wrong, and
 ends with a count.
 
@@ -22,9 +22,9 @@ sys.dont_write_bytecode = True
 TOP = os.path.dirname(os.path.dirname(os.path.abspath(__file__)))
 sys.path.insert(0, os.path.join(TOP, 'tools'))
 import audit                                                                # noqa: E402
+import lint_rules                                                           # noqa: E402
 import lint                                                                 # noqa: E402
-import look                                                                 # noqa: E402
-import proved                                                               # noqa: E402
+from support import proved                                                  # noqa: E402
 import why                                                                  # noqa: E402
 
 
@@ -48,12 +48,11 @@ WORDS = {
 # Where each application is to be looked at: the line, the column, and the entry without its view or model.
 CASES = {
     'a_form_saves_what_it_was_filled_with': [
-        (4, 44, 'nobody (get Card owner this)'), (7, 55, 'markup Card.phone'), (9, 25, 'write Card.phone')],
+        (4, 44, 'nobody (get Card owner this)'), (9, 25, 'write Card.phone')],
     'a_copy_of_a_record_that_is_gone': [
-        (5, 43, 'nobody (get Draft author this)'), (11, 33, 'copy Draft.words'), (12, 77, 'unasked Draft.published'),
-        (13, 73, 'markup Article.words'), (15, 60, 'markup Draft.words')],
+        (5, 43, 'nobody (get Draft author this)'), (11, 33, 'copy Draft.words'), (12, 77, 'unasked Draft.published')],
     'a_branch_stores_in_its_own_worlds': [
-        (4, 42, 'nobody (get Event host this)'), (9, 11, 'branch Event.title'), (11, 50, 'markup Note.words')],
+        (4, 42, 'nobody (get Event host this)'), (9, 11, 'branch Event.title')],
     'a_hidden_number_is_a_number': [
         (4, 52, 'nobody (get Score of this)'), (7, 33, 'write Score.points'), (9, 41, 'sum Score.points')],
     'a_share_that_reads_a_hidden_record trap': [(18, 30, 'branch Paper')],
@@ -63,53 +62,43 @@ CASES = {
     'a_role_that_reads_a_hidden_record recipe': [(8, 43, 'unasked Role')],
 }
 TRAPS = {
-    'checks/looks/share.app': [(18, 30, 'branch Paper')],
-    'checks/looks/fire.app': [(5, 40, 'unasked Person.hr'), (7, 7, 'branch Person'), (9, 7, 'branch Person')],
+    'checks/linted/share.app': [(18, 30, 'branch Paper')],
+    'checks/linted/fire.app': [(5, 40, 'unasked Person.hr'), (7, 7, 'branch Person'), (9, 7, 'branch Person')],
     'examples/calendar.app': [(5, 38, 'nobody (get Event host this)'), (11, 41, 'markup Event.title')],
-    'checks/looks/badges.app': [
+    'checks/linted/badges.app': [
         (3, 52, 'nobody (get Person boss this)'), (5, 79, 'nobody (get Badge of b)'), (7, 7, 'branch Person'),
         (10, 8, 'nobody (get Badge of b)'), (13, 9, 'branch Person')],
-    'checks/looks/clubs.app': [(10, 3, 'unasked Member'), (12, 3, 'unasked Member'), (14, 26, 'unasked Member.club')],
-    'checks/looks/login.app': [(3, 48, 'redirect to'), (4, 40, 'redirect Person.home'), (5, 59, 'redirect to'),
+    'checks/linted/clubs.app': [(10, 3, 'unasked Member'), (12, 3, 'unasked Member'), (14, 26, 'unasked Member.club')],
+    'checks/linted/login.app': [(3, 48, 'redirect to'), (4, 40, 'redirect Person.home'), (5, 59, 'redirect to'),
                                (6, 54, 'redirect to')],
-    'checks/looks/profiles.app': [
+    'checks/linted/profiles.app': [
         (7, 14, 'escape name'), (7, 84, 'markup name'), (8, 13, 'escape Person.site'), (9, 29, 'escape note'),
         (9, 44, 'escape note'), (11, 20, 'escape note'), (14, 20, 'markup note')],
-    'checks/looks/salaries.app': [
+    'checks/linted/salaries.app': [
         (5, 7, 'branch Person.boss'), (9, 7, 'branch Person.boss'), (10, 13, 'branch Person.salary')],
-    'checks/looks/tasks.app': [(5, 67, 'nobody (get Task helper this)'), (12, 13, 'nobody (get Task of id)')],
-    'checks/looks/tickets.app': [(9, 7, 'branch Ticket')],
-    'checks/looks/visits.app': [(9, 29, 'branch Visit'), (14, 8, 'branch Visit')],
-    'checks/looks/wards.app': [(7, 37, 'unasked Person.nurse'), (11, 26, 'unasked Person.ward')],
+    'checks/linted/tasks.app': [(5, 67, 'nobody (get Task helper this)'), (12, 13, 'nobody (get Task of id)')],
+    'checks/linted/tickets.app': [(9, 7, 'branch Ticket')],
+    'checks/linted/visits.app': [(9, 29, 'branch Visit'), (14, 8, 'branch Visit')],
+    'checks/linted/wards.app': [(7, 37, 'unasked Person.nurse'), (11, 26, 'unasked Person.ward')],
 }
 EXAMPLES = {
-    'examples/agenda.app': [
-        (19, 9, 'markup Event.title'), (22, 35, 'branch Event.title'), (27, 40, 'markup Note.body')],
-    'examples/courses.app': [
-        (14, 9, 'markup Student.name'), (14, 58, 'markup Course.title'), (18, 9, 'markup Course.title'),
-        (23, 8, 'markup Course.title'), (27, 19, 'markup Student.name'), (34, 9, 'markup Student.name'),
-        (36, 9, 'markup Course.title')],
+    'examples/agenda.app': [(22, 35, 'branch Event.title')],
+    'examples/courses.app': [],
     'examples/guestbook.app': [],
-    'examples/guests.app': [(5, 29, 'markup name'), (8, 9, 'markup Guest.name')],
+    'examples/guests.app': [],
     'examples/hello.app': [],
-    'examples/invitations.app': [
-        (28, 30, 'markup User.name'), (32, 30, 'branch Invite'), (33, 51, 'markup Invite.answer'),
-        (38, 9, 'markup Party.title'), (40, 20, 'markup User.name'), (40, 74, 'markup Invite.answer')],
-    'examples/library.app': [
-        (16, 9, 'markup Book.title'), (20, 9, 'markup Reader.name'), (26, 8, 'markup Book.title'),
-        (30, 9, 'markup Book.title'), (36, 9, 'markup Reader.name'), (36, 49, 'markup Book.title'),
-        (42, 9, 'markup Book.title')],
+    'examples/invitations.app': [(32, 30, 'branch Invite')],
+    'examples/library.app': [],
     'examples/meetings.app': [
         (12, 13, 'unlinked'), (15, 13, 'unlinked'), (19, 13, 'unlinked'), (20, 47, 'branch Event.host')],
     'examples/notes.app': [],
     'examples/planner.app': [],
-    'examples/people.app': [(10, 9, 'markup User.name'), (10, 46, 'markup User.town')],
-    'examples/records.app': [
-        (12, 37, 'unasked Person.doctor'), (20, 30, 'branch Record'), (27, 9, 'markup Record.day'),
-        (27, 44, 'markup Person.name'), (28, 9, 'markup Record.words'), (32, 10, 'markup Record.words')],
-    'examples/shop.app': [(13, 47, 'markup Item.name')],
+    'examples/people.app': [],
+    'examples/records.app': [(25, 30, 'branch Record')],
+    'examples/shop.app': [],
 }
-# The larger ones have a file of what was accepted, and nothing else is to be looked at.
+# Of these nothing is to be looked at but what is accepted, and of the larger ones something is.
+SMALL = sorted(glob.glob('examples/*.app', root_dir=TOP))
 LARGE = ('examples/calendar/app', 'examples/conference/app', 'examples/courses/app', 'examples/courses/next/app',
          'examples/health/app')
 
@@ -207,7 +196,7 @@ MORE = '''
 '''
 ACCEPTED = {
     'nothing is accepted': ('', '', (1, '', LEFT)),
-    'all is accepted': ('', ALL, (0, 'look: nothing to look at, 3 accepted\n', [])),
+    'all is accepted': ('', ALL, (0, 'lint: nothing to look at, 3 accepted\n', [])),
     'one is accepted': ('', ALL.split('\n\n')[0], (1, '', LEFT[1:])),
     'one is new': (MORE, ALL, (1, '', ['branch Person'])),
     'one no longer applies': ('', ALL + 'view get /: markup Person.name\n    It is a name.\n', (
@@ -366,10 +355,10 @@ def run(tool, words, folder=TOP):
 
 
 def looked(name, path, want):
-    """What is wrong with what the second look says of a file, if anything."""
-    status, out = run(look, [path])
+    """What is wrong with what the linter says of a file of which nothing was accepted, if anything."""
+    status, out = run(lint, [path, '--accepted', os.devnull])
     have = [(int(line), int(column), entry) for line, column, _, entry in places(path, out)]
-    if not want and (status, out) == (0, 'look: nothing to look at\n'):
+    if not want and (status, out) == (0, 'lint: nothing to look at\n'):
         return None
     are_said = all(re.search(WORDS[entry.split()[0]], words) for _, _, words, entry in places(path, out))
     if want and (status, have) == (1, want) and are_said:
@@ -393,32 +382,33 @@ def of_texts(folder):
         yield looked(name, path, want)
 
 
-def of_large():
-    """The larger examples have nothing to look at that isn't accepted, and something that is."""
-    for path in LARGE:
-        status, out = run(look, [path])
-        right = status == 0 and re.fullmatch(r'look: nothing to look at, [1-9]\d* accepted\n', out)
+def of_whole_examples():
+    """The examples have nothing to look at that isn't accepted, and the larger ones something that is."""
+    for path in (*SMALL, *LARGE):
+        status, out = run(lint, [path])
+        right = status == 0 and re.fullmatch(r'lint: nothing to look at(, [1-9]\d* accepted)%s\n' % (
+            '?' if path in SMALL else ''), out)
         yield None if right else '%s: status %d, %s' % (path, status, out)
 
 
 def of_accepted(folder):
     """What is said of an application where something was accepted."""
     path = os.path.join(folder, 'fire.app')
-    with open(os.path.join(TOP, 'checks', 'looks', 'fire.app'), encoding='utf-8') as file:
+    with open(os.path.join(TOP, 'checks', 'linted', 'fire.app'), encoding='utf-8') as file:
         text = file.read()
     for name, (more, accepted, want) in ACCEPTED.items():
         for file, content in ((path, text.replace(' (view get', more + ' (view get')), (path + '.accepted', accepted)):
             with open(file, 'w', encoding='utf-8') as handle:
                 handle.write(content)
-        status, out = run(look, [path])
+        status, out = run(lint, [path])
         have = (status, re.sub(r'(?m)^(?:    .*|.*look at this.*)\n', '', out).replace(path, 'fire.app'),
                 [entry for *_, entry in places(path, out)])
         yield None if have == want else '%s: want %s, have %s' % (name, want, have)
     stray = os.path.join(folder, 'fire.accepted')
     with open(stray, 'w', encoding='utf-8'):
-        status, out = run(look, [path])
+        status, out = run(lint, [path])
     os.unlink(stray)
-    right = out.startswith('look: %s is not read: the name is %s.accepted\n' % (stray, path))
+    right = out.startswith('lint: %s is not read: the name is %s.accepted\n' % (stray, path))
     yield None if right else 'a file of another name: %d, %s' % (status, out)
 
 
@@ -430,20 +420,20 @@ def of_refusals(folder):
                  '(app (view get "/" (params) (put x)))'):
         with open(path, 'w', encoding='utf-8') as file:
             file.write(text)
-        status, out = run(look, [path])
-        want = 'look: %s is no application that is served; ./jac check %s says why\n' % (path, path)
+        status, out = run(lint, [path])
+        want = 'lint: %s is no application that is served; ./jac check %s says why\n' % (path, path)
         yield None if (status, out) == (2, want) else '%s: %d, %s' % (text, status, out)
     for words, want in (([path + '.none'], 2), (['--help'], 0), ([], 2)):
-        status, out = run(look, words)
-        yield None if status == want and out and 'Traceback' not in out else 'look.py %s: %d, %s' % (words, status, out)
+        status, out = run(lint, words)
+        yield None if status == want and out and 'Traceback' not in out else 'lint.py %s: %d, %s' % (words, status, out)
 
 
 def of_commands():
     """The exit status of the command itself."""
-    for word, want in (('checks/looks/share.app', 1), ('examples/hello.app', 0), ('examples/none.app', 2)):
-        status = subprocess.run([sys.executable, 'tools/look.py', word], cwd=TOP, stdout=subprocess.DEVNULL,
+    for word, want in (('checks/linted/share.app', 1), ('examples/hello.app', 0), ('examples/none.app', 2)):
+        status = subprocess.run([sys.executable, 'tools/lint.py', word], cwd=TOP, stdout=subprocess.DEVNULL,
                                 check=False).returncode
-        yield None if status == want else 'look.py %s: status %d' % (word, status)
+        yield None if status == want else 'lint.py %s: status %d' % (word, status)
 
 
 def of_all_cases():
@@ -453,8 +443,8 @@ def of_all_cases():
             texts = re.findall(r'(?ms)^== file [^\n]*\n(\(app.*?)(?=^== )', file.read())
         try:
             for text in texts:
-                with contextlib.suppress(lint.NotServed):
-                    lint.found_in(text.encode())
+                with contextlib.suppress(lint_rules.NotServed):
+                    lint_rules.found_in(text.encode())
             yield None
         except Exception as fault:
             yield '%s: %r' % (path, fault)
@@ -523,10 +513,10 @@ def of_program(program):
 def main():
     with tempfile.TemporaryDirectory() as folder:
         results = [*of_texts(folder), *(looked(name, name, want) for name, want in {**TRAPS, **EXAMPLES}.items()),
-                   *of_large(), *of_accepted(folder), *of_refusals(folder), *of_commands(), *of_all_cases(),
+                   *of_whole_examples(), *of_accepted(folder), *of_refusals(folder), *of_commands(), *of_all_cases(),
                    *of_audits(), *of_reasons()]
     if sys.argv[1:]:
-        results += of_program(proved.program(sys.argv[1]))
+        results += of_program(proved.program(proved.first_word()))
     for wrong in filter(None, results):
         print('FAILED ' + wrong)
     failed = sum(1 for wrong in results if wrong)

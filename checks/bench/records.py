@@ -1,4 +1,3 @@
-#!/usr/bin/env python3
 """Measures the page of one record among many: an event's of examples/calendar and a paper's of examples/conference.
 Words: the program, and the numbers of records, or none for 1,000 and 16,000. The records are made in memory by a view
 that is added to the application, some twenty by a request of nobody's. Each page is asked on a connection that is kept,
@@ -16,9 +15,9 @@ import sys
 import tempfile
 import time
 
-import proved
-from bench_examples import TOP, id_of, users_file
-from serving import processor_seconds, served
+from support import proved
+from bench.examples import TOP, id_of, users_file
+from support.serving import processor_seconds, served
 
 SIZES = [1000, 16000]
 ROUNDS = 15
@@ -331,9 +330,9 @@ def write_app(kind, folder):
         file.write(users_file(2))
 
 
-def main():
-    program = proved.program(sys.argv[1])
-    sizes = [int(word) for word in sys.argv[2:]] or SIZES
+def main(words):
+    program = proved.program(words[0])
+    sizes = [int(word) for word in words[1:]] or SIZES
     flags = [(), (LAZY,)] if knows_lazy(program) else [()]
     if len(flags) == 1:
         print('left out, as the program does not know it: %s' % LAZY)
@@ -355,7 +354,3 @@ def main():
 
 def row(kind, count, who, by, first, again):
     print('%-11s %7d  %-10s %-11s %9.3f %9.3f' % (kind.name, count, who, by, 1e3 * first, 1e3 * again), flush=True)
-
-
-if __name__ == '__main__':
-    main()

@@ -2,19 +2,19 @@
 """Turns the definitions of the ordinary interpreter, the policies, the requests and the pages one at a time, and sees that
 a computed example of jac_semantics_examples fails. It is no part of the gate; what the examples come to is proved there.
 
-    python3 checks/turned.py [--count 200] [--seed 1] [--only TEXT] [--list] [--all]
+    python3 checks/mutate_definitions.py [--count 200] [--seed 1] [--only TEXT] [--list] [--all]
                              [--prove] [--jobs 1] [--through "WORDS"] [--results FILE]
 
 What it makes of a definition's right side: `&&` for `||`, `<` for `<=`, `true` for `false`, a number one more, `None` for a
 `Some`, last for first, two arguments or two neighbouring cases exchanged, the sides of an `if` exchanged, a case, a `not`,
 a condition or a field of a record left out. All of them are made from the text in one order; the seed chooses so many,
-spread over the files, and `--all` takes all. `meaning.py` says what each example comes to with the turn in its place, a
+spread over the files, and `--all` takes all. `definition_values.py` says what each example comes to with the turn in its place, a
 tenth of a second for each turn. A turn that gives some example no meaning, as one of the wrong kind, is no turn: it is told
 as not made, and counts for nothing.
 
 What no example sees is told. With `--prove` the prover is asked of it, by a check of the definition's whole crate in a copy:
 where the definition is refused the turn isn't made, and where a law or the code is, that sees it. Then statements are turned
-as well, words that begin with a capital letter, of which `meaning.py` knows nothing; where jac_semantics_examples stands on their crate
+as well, words that begin with a capital letter, of which `definition_values.py` knows nothing; where jac_semantics_examples stands on their crate
 the prover is asked of its examples too. What is turned of jac_engine is asked of the examples of jac_answer_examples first, among whose
 own definitions it stands then, so that the engine isn't proved for each turn. `--jobs` copies are at work side by side,
 `--through` are words to run each check through, and what is told in the file of the results isn't tried again."""
@@ -31,8 +31,8 @@ import sys
 import tempfile
 
 sys.dont_write_bytecode = True
-from meaning import Logic, parts                                            # noqa: E402
-from pages import TOP, read                                                 # noqa: E402
+from definition_values import Logic, parts                                  # noqa: E402
+from support.pages import TOP, read                                         # noqa: E402
 
 SAMPLES, FILES = 'jac_semantics_examples', {
     'jac_plain': ('Expressions', 'World', 'Statements', 'Policies', 'Requests', 'Reading', 'Records', 'Making', 'Models'),

@@ -1,0 +1,61 @@
+#!/usr/bin/env python3
+"""Checks a crate over the sources of the crates below it that aren't proved, so that a crate can be worked on while those
+are still being proved. Words: the crate, and the words of `rattle check`, as `--only FILE::FUNCTION` or `--only=`, which
+tells errors of the code alone. Libraries that stand in this clone are taken as they are. It keeps its work in the crate's
+`out/incremental`. Nothing is proved by it: the contracts below are taken as they stand."""
+import argparse
+import os
+import sys
+
+sys.dont_write_bytecode = True
+from crates import TOP, below, folder                                       # noqa: E402
+
+KIT = '/opt/rattle'
+
+
+def uses(name):
+    """What the crate's line of crates.txt names, with the crates of the kit."""
+    with open(os.path.join(TOP, 'crates.txt'), encoding='utf-8') as lines:
+        for line in lines:
+            head, _, names = line.partition('#')[0].partition(':')
+            if head.split()[:1] == [name]:
+                return names.split()
+    sys.exit('there is no crate ' + name)
+
+
+def library(name):
+    return os.path.join(folder(name), 'out', 'rlib', name + '.rlib')
+
+
+def words_below(crate):
+    """The words that name the kit's crates, the libraries that stand, and the sources of the others."""
+    own = [name for name in below(crate) if name != crate]
+    kit = sorted({name for one in [*own, crate] for name in uses(one)} - set(own) - {crate})
+    for name in ['core', 'std', *kit]:
+        path = os.path.join(KIT, 'rlibs', name + '.rlib')
+        if os.path.exists(path):
+            yield from ('--extern', '%s=%s' % (name, path))
+    for name in own:
+        if os.path.exists(library(name)):
+            yield from ('--extern', '%s=%s' % (name, library(name)), '-L', 'dependency=' + os.path.dirname(library(name)))
+        else:
+            yield from ('--lib', '%s:%s=%s' % (name, ','.join(['core', 'std', *uses(name)]),
+                                               os.path.join(folder(name), 'src', 'lib.rt')))
+
+
+def main():
+    parser = argparse.ArgumentParser(description=__doc__)
+    parser.add_argument('crate')
+    given, words = parser.parse_known_args()
+    os.makedirs(os.path.join(folder(given.crate), 'out'), exist_ok=True)
+    os.chdir(folder(given.crate))
+    command = ['rattle', 'check', '--crate-name', given.crate, os.path.join('src', 'lib.rt'),
+               '-L', 'dependency=' + os.path.join(KIT, 'rlibs'), *words_below(given.crate),
+               '--antt-project', os.path.join(KIT, 'rattle', 'logic', 'antt-project.json'),
+               '--logic-built', os.path.join(KIT, 'logic_built'), '--links', given.crate + '=', '--jobs', '1',
+               '--incremental', os.path.join('out', 'incremental'), *words]
+    os.execv(os.path.join(KIT, 'bin', 'rattle'), command)
+
+
+if __name__ == '__main__':
+    main()
