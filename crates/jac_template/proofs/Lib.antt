@@ -9,3 +9,5 @@ pub mod Runs
 pub mod OneExpansion
 pub mod Texts
 pub mod SiteLaws
+pub mod FormReads
+pub mod Total

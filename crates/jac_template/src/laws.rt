@@ -1,8 +1,10 @@
-ghost use Rattle.std.specs.Prelude.{◌≡◌, ℕ, List};
-ghost use Rattle.jac_lang.specs.Syntax.{Page, Application};
+ghost use Rattle.std.specs.Prelude.{◌≡◌, ◌⊎◌, ℕ, List, IsTrue};
+ghost use Rattle.jac_lang.specs.Syntax.{Statements, Page, Application};
 ghost use Rattle.jac_lang.specs.Written.{sites};
 ghost use Rattle.jac_template.specs.Applications.{Expanded, ExpandsApplication, ExpandsView};
 ghost use Rattle.jac_template.specs.Expansion.{Expansion, Expands};
+ghost use Rattle.jac_template.specs.Faults.{fault_in_template, refuses_template};
+ghost use Rattle.jac_template.specs.declared.fault.TemplateFault.{TemplateFault};
 
 /// Laws, with nothing to run: a text expands to one thing, and so does an application.
 pub fn expands_to_one()
@@ -16,4 +18,13 @@ pub fn expands_to_one()
 /// nothing.
 pub fn expansion_keeps_sites()
     ensures { (v : Page) (out : Page) → ExpandsView v out → sites out.body ≡ sites v.body }
+{}
+
+/// A law, with nothing to run: each text is a template of some statements, or has a fault other
+/// than want of memory. `expand` may answer that memory ran out, whatever the text is. Without this
+/// law there could be texts for which its contract allows no other answer.
+pub fn each_text_expands()
+    ensures { (text : List ℕ) → ((ss : Statements) × Expands text (Expansion.statements ss))
+        ⊎ ((fault : TemplateFault) × IsTrue (refuses_template fault)
+        × Expands text (Expansion.fault (fault_in_template fault))) }
 {}

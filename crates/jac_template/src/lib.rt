@@ -15,4 +15,4 @@ pub use application::{ViewFault, expand_app};
 pub use expansion::expand;
 pub use fault::TemplateFault;
 pub use jac_value::escape_html as escape;
-pub use laws::{expands_to_one, expansion_keeps_sites};
+pub use laws::{each_text_expands, expands_to_one, expansion_keeps_sites};
