@@ -5,6 +5,8 @@ use Rattle.jac_rows.specs.declared.row.Row.{Row}
 use Rattle.jac_rows.specs.declared.state.State.{State}
 use Rattle.jac_plain.specs.Policies.{IsLiveLabel, ShowsForbidden, IsSettled}
 use Rattle.jac_plain.specs.Shown.{worlds_of}
+use Rattle.jac_pruned.specs.Local.{IsLocalCase}
+use Rattle.jac_resolve.specs.Rounds.{AreFewEvaluations}
 
 module _ (app : Application) (s : State) (number : ℕ) (viewer : Option ℕ) where
   pub live_alike : (k : ℕ) → IsLiveLabel app (worlds_of s) k → IsLiveLabel app (worlds_of (record s { number = number })) k
@@ -22,6 +24,16 @@ module _ (app : Application) (s : State) (number : ℕ) (viewer : Option ℕ) wh
     live = λ k h. live_alike k (is.live k h);
     allowed = is.allowed;
     full = λ k live hidden. refuses_alike _ (is.full k (live_back k live) hidden);
+  }
+
+  local_back : IsLocalCase app (record s { number = number }) viewer → IsLocalCase app s viewer
+  local_back is = record { policies = is.policies; state = is.state; next = is.next; good = is.good; asker = is.asker }
+
+  -- how few policies were evaluated depends on the tables alone
+  pub few_numbered : (before now : ℕ) → AreFewEvaluations app s viewer before now → AreFewEvaluations app (record s { number = number }) viewer before now
+  few_numbered before now are = record {
+    few = λ local labels up live. are.few (local_back local) labels up
+        (record { only = λ k shown. live_back k (live.only k shown); every = λ k lives. live.every k (live_alike k lives) });
   }
 
 pub settled_alike : (app : Application) (s t : State) (viewer : Option ℕ) (labels : List ℕ) → s.tables ≡ t.tables → IsSettled app (worlds_of s) viewer labels → IsSettled app (worlds_of t) viewer labels

@@ -7,14 +7,17 @@ use Rattle.jac_world.specs.World.{shown_by, holds, names, IsAscending}
 use Rattle.jac_world.proofs.Bisected.{ascending_same}
 use Rattle.jac_world.proofs.Contradict.{by_names}
 use Rattle.jac_lang.specs.Syntax.{Application}
+use Rattle.jac_rows.specs.declared.state.State.{State}
 use Rattle.jac_plain.specs.Requests.{Worlds}
-use Rattle.jac_resolve.specs.Rounds.{AreLive}
+use Rattle.jac_plain.specs.Shown.{worlds_of}
+use Rattle.jac_pruned.specs.Local.{IsLocalCase}
+use Rattle.jac_resolve.specs.Rounds.{AreFewEvaluations, AreLive}
 use Rattle.jac_policy_cache.proofs.Rising.{bool_eq}
 use Rattle.jac_policy_cache.specs.declared.policy_memo.PolicyMemo.{PolicyMemo}
 use Rattle.jac_policy_cache.specs.declared.policy_memo.MemoEntry.{MemoEntry}
 use Rattle.jac_policy_cache.specs.Memo.{or_known, recall, signed_labels, watches}
 use Rattle.jac_resolve.specs.RightMemo.{Grown}
-use Rattle.jac_resolve.specs.Room.{AreLocalAnswers, Spends, room, unknown_signs, with_sign}
+use Rattle.jac_resolve.specs.Room.{AreLocalAnswers, IsEmptyMemo, Spends, room, unknown_signs, with_sign}
 use Rattle.jac_resolve.proofs.Underway.{either, known_if, or_same}
 
 less_if : (a b : Bool) → (a ≡ true → b ≡ true) → (if b then 0 else 1) ≤ (if a then 0 else 1)
@@ -227,3 +230,20 @@ pub live_most : (app : Application) (worlds : Worlds) (xs ys : List ℕ) (before
 live_most app worlds xs ys before now up_x up_y live_x live_y most =
     let same : xs ≡ ys = ascending_same xs ys up_x up_y (λ k. bool_eq (shown_by xs k) (shown_by ys k) (λ s. live_y.every k (live_x.only k s)) (λ s. live_x.every k (live_y.only k s))) in
     subst (λ (l : List ℕ). now ≤ before + 256 * length l) same most
+
+-- the policies of one list of the live labels were asked
+pub live_asked : (app : Application) (s : State) (viewer : Option ℕ) (live : List ℕ) (before now : ℕ) → IsAscending live → AreLive app (worlds_of s) live →
+    (IsLocalCase app s viewer → now ≤ before + 256 * length live) → AreFewEvaluations app s viewer before now
+live_asked app s viewer live before now up are most = record {
+  few = λ local labels up_labels are_labels. live_most app (worlds_of s) live labels before now up up_labels are are_labels (most local);
+}
+
+-- the same, where nothing was remembered before
+pub first_asked : (app : Application) (s : State) (viewer : Option ℕ) (live : List ℕ) (answers : PolicyMemo) (before now : ℕ) → IsAscending live → AreLive app (worlds_of s) live → IsEmptyMemo answers →
+    (IsLocalCase app s viewer → AreLocalAnswers live answers → now ≤ before + room live answers) → AreFewEvaluations app s viewer before now
+first_asked app s viewer live answers before now up are empty most =
+    live_asked app s viewer live before now up are (λ local. all_asked live before now answers (most local (own_start live answers empty.recalls empty.unwatched)))
+
+-- no policy was asked
+pub none_asked : (app : Application) (s : State) (viewer : Option ℕ) (now : ℕ) → AreFewEvaluations app s viewer now now
+none_asked app s viewer now = record { few = λ local labels up are. omega arith }

@@ -1,4 +1,4 @@
--- What is remembered of policies, while labels are tried.
+-- When remembered answers of policies are right, while labels are tried.
 use Rattle.std.specs.Prelude.{◌≡◌, ◌==◌, ◌||◌, ℕ, Bool, true, false, List, Option, Some, is_some, ⊤}
 use Rattle.jac_world.specs.World.{shown_by, holds}
 use Rattle.jac_lang.specs.Syntax.{Application}

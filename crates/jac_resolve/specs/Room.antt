@@ -1,5 +1,5 @@
--- How much there is left to ask of policies that consult labels of their own record alone.
-use Rattle.std.specs.Prelude.{◌≡◌, ◌==◌, ◌≤◌, ◌+◌, ℕ, zero, suc, Bool, true, false, List, [], ◌∷◌, Option, is_some, if◌then◌else◌}
+-- A bound on evaluations of policies that consult labels of their own record alone.
+use Rattle.std.specs.Prelude.{◌≡◌, ◌==◌, ◌≤◌, ◌+◌, ℕ, zero, suc, Bool, true, false, List, [], ◌∷◌, Option, None, is_some, if◌then◌else◌}
 use Rattle.jac_value.specs.Ids.{label_of, record_of_label}
 use Rattle.jac_world.specs.World.{shown_by}
 use Rattle.jac_policy_cache.specs.declared.policy_memo.PolicyMemo.{PolicyMemo}
@@ -27,6 +27,11 @@ pub record AreLocalAnswers (labels : List ℕ) (answers : PolicyMemo) : Type 0 w
   pub own : (k : ℕ) (v w : ℕ → Bool) → ((j : ℕ) → record_of_label j ≡ record_of_label k → v j ≡ w j)
       → recall answers k v ≡ recall answers k w
   pub among : (k j : ℕ) → watches answers k j ≡ true → shown_by labels j ≡ true
+
+-- nothing is remembered, and no label is watched
+pub record IsEmptyMemo (answers : PolicyMemo) : Type 0 where
+  pub recalls : (k : ℕ) (w : ℕ → Bool) → recall answers k w ≡ None
+  pub unwatched : (k j : ℕ) → watches answers k j ≡ false
 
 -- what was asked is no longer left to ask
 pub record Spends (labels : List ℕ) (before now : ℕ) (old new : PolicyMemo) : Type 0 where

@@ -1,12 +1,14 @@
 -- What the steps of the greedy pass leave. The definition of a settled set knows none of it.
-use Rattle.std.specs.Prelude.{◌≡◌, ℕ, ◌+◌, ◌<◌, Bool, true, false, if◌then◌else◌, ◌||◌, List, [], ◌∷◌}
-use Rattle.jac_world.specs.World.{shown_by}
+use Rattle.std.specs.Prelude.{◌≡◌, ℕ, ◌+◌, ◌*◌, ◌<◌, ◌≤◌, Bool, true, false, if◌then◌else◌, ◌||◌, List, [], ◌∷◌, Option, length}
+use Rattle.jac_world.specs.World.{shown_by, IsAscending}
 use Rattle.jac_lang.specs.Syntax.{Application}
 use Rattle.jac_rows.specs.Project.{project_at}
 use Rattle.jac_plain.specs.Requests.{Worlds}
 use Rattle.jac_rows.specs.declared.state.State.{State}
 use Rattle.jac_rows.specs.Good.{IsSound}
 use Rattle.jac_plain.specs.Policies.{with_label, IsLiveLabel}
+use Rattle.jac_plain.specs.Shown.{worlds_of}
+use Rattle.jac_pruned.specs.Local.{IsLocalCase}
 
 -- the tables are those of a sound state: of the state itself, or once a later number is set
 pub record HasSoundTables (s : State) : Type 0 where
@@ -17,6 +19,13 @@ pub record HasSoundTables (s : State) : Type 0 where
 pub record AreLive (app : Application) (worlds : Worlds) (labels : List ℕ) : Type 0 where
   pub only : (k : ℕ) → shown_by labels k ≡ true → IsLiveLabel app worlds k
   pub every : (k : ℕ) → IsLiveLabel app worlds k → shown_by labels k ≡ true
+
+-- in a local application, over a local state, policies were evaluated at most 256 times for each
+-- live label
+pub record AreFewEvaluations (app : Application) (s : State) (viewer : Option ℕ)
+    (before now : ℕ) : Type 0 where
+  pub few : IsLocalCase app s viewer → (labels : List ℕ) → IsAscending labels
+      → AreLive app (worlds_of s) labels → now ≤ before + 256 * length labels
 
 -- how many of the labels aren't shown
 abbrev pub hidden_count : (ℕ → Bool) → List ℕ → ℕ

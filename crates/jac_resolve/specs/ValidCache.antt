@@ -1,4 +1,4 @@
--- What was settled for somebody, as far as it is still right.
+-- When a viewer's cache is valid.
 use Rattle.std.specs.Prelude.{◌≡◌, ◌⊎◌, ℕ, Bool, true, false, List, [], Option, Some, None, is_some, ⊤}
 use Rattle.jac_world.specs.World.{shown_by}
 use Rattle.jac_lang.specs.Syntax.{Application}

@@ -25,14 +25,14 @@ pub fn settled_by_tables()
         → IsSettled app (worlds_of t) viewer labels }
 {}
 
-/// A law: where nothing was asked or settled, all is as it is kept.
+/// A law: an empty cache is valid.
 pub fn empty_cache_is_valid()
     ensures { (app : Application) (worlds : Worlds) (viewer : Option ℕ) (cache : Kept)
         → IsEmptyCache cache → IsValidCache app worlds viewer cache }
 {}
 
-/// A law: what was settled in some worlds, and is invalidated by what a change to later ones
-/// affects, is kept in the later ones.
+/// A law: a cache that is valid in some worlds, and is invalidated by what a change to later ones
+/// affects, is valid in the later ones.
 pub fn cache_moves()
     ensures { (app : Application) (worlds later : Worlds) (viewer : Option ℕ)
         (invalidation : Change)

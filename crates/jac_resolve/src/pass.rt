@@ -1,6 +1,6 @@
 //! The greedy pass that settles which labels a viewer is shown.
 ghost use Rattle.std.specs.Prelude.{◌≡◌, ◌==◌, ◌≤◌, ◌+◌, ◌*◌, ℕ, Bool, true, List, [], length, is_some, IfOk, OnOk, IsTrue};
-ghost use Rattle.jac_world.specs.World.{shown_by, holds, names, IsAscending};
+ghost use Rattle.jac_world.specs.World.{shown_by, holds, names};
 ghost use Rattle.jac_value.specs.Ids.{record_of_label};
 ghost use Rattle.jac_lang.specs.Mirror.{application_of};
 ghost use Rattle.jac_keep.specs.WorkState.{state_of, IsTold, ReadsWork};
@@ -9,7 +9,7 @@ ghost use Rattle.jac_plain.specs.Policies.{IsSettled, is_allowed};
 ghost use Rattle.jac_policy_cache.specs.Memo.{recall};
 ghost use Rattle.jac_resolve.specs.RightMemo.{AreRight, Fills, Fitting, Grown, IsPassed, IsRight, IsUnderway, Retains, Stays, Tries, is_affected};
 ghost use Rattle.jac_resolve.specs.Room.{AreLocalAnswers, Spends, room};
-ghost use Rattle.jac_resolve.specs.Rounds.{HasSoundTables, AreLive, MayAdd, Advances, Within};
+ghost use Rattle.jac_resolve.specs.Rounds.{AreFewEvaluations, HasSoundTables, AreLive, MayAdd, Advances, Within};
 ghost use Rattle.jac_plain.specs.Shown.{worlds_of};
 
 use crate::live::live_labels;
@@ -34,10 +34,9 @@ pub fn resolve<K: Keeper, M: Ledger>(
     requires sound { IsTold K.seen work.old → HasSoundTables (state_of K.seen work.old) }
     ensures settled { IsTold K.seen work.new → IfOk result
         (IsSettled (application_of app.now) (worlds_of (state_of K.seen work.old)) viewer) }
-    ensures bounded { IsTold K.seen work.new → IsLocalCase (application_of app.now)
-        (state_of K.seen work.old) viewer → (labels : List ℕ) → IsAscending labels
-        → AreLive (application_of app.now) (worlds_of (state_of K.seen work.old)) labels
-        → evaluations.new ≤ evaluations.old + 256 * length labels }
+    ensures bounded { IsTold K.seen work.new
+        → AreFewEvaluations (application_of app.now) (state_of K.seen work.old) viewer
+        evaluations.old evaluations.new }
     ensures later { evaluations.old ≤ evaluations.new }
     ensures reads { ReadsWork K.seen work.old work.new result }
 {

@@ -19,7 +19,7 @@ use jac_value::{Id, id_model};
 use jac_world::{Assignment, Label, Steps};
 use std::sync::ledger::Ledger;
 
-/// Whether the record of the label stands under the assignment, and the policy of its group is true
+/// Whether the record of the label exists under the assignment, and the policy of its group is true
 /// there; and the labels that were consulted for this answer, which is the same wherever they are
 /// shown as here.
 pub fn allowed<K: Keeper, M: Ledger>(

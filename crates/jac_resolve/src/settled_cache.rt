@@ -1,12 +1,13 @@
-//! What was settled for somebody, settled again after a change.
-ghost use Rattle.std.specs.Prelude.{◌≡◌, ◌≤◌, ◌&&◌, ℕ, true, not, is_some, Some, IfOk, OnOk, IsTrue};
+//! A viewer's cache, settled again after a change.
+ghost use Rattle.std.specs.Prelude.{◌≡◌, ◌≤◌, ◌&&◌, ℕ, true, not, is_some, None, Some, IfOk, OnOk, IsTrue};
 ghost use Rattle.std.specs.List.{list_all};
 ghost use Rattle.jac_world.specs.World.{shown_by};
 ghost use Rattle.jac_lang.specs.Mirror.{application_of};
 ghost use Rattle.jac_keep.specs.WorkState.{state_of, IsTold, ReadsWork};
 ghost use Rattle.jac_plain.specs.Policies.{IsSettled};
 ghost use Rattle.jac_resolve.specs.RightMemo.{AreRefused, IsUnderway, Retains};
-ghost use Rattle.jac_resolve.specs.Rounds.{HasSoundTables, Within};
+ghost use Rattle.jac_resolve.specs.Room.{IsEmptyMemo};
+ghost use Rattle.jac_resolve.specs.Rounds.{AreFewEvaluations, HasSoundTables, Within};
 ghost use Rattle.jac_resolve.specs.ValidCache.{AreNear, AreNearIf, IsAtRest, IsValidCache, IsSettledApart, TriesApart, Widens, cache_labels};
 ghost use Rattle.jac_plain.specs.Shown.{worlds_of};
 
@@ -20,9 +21,11 @@ use jac_world::{Assignment, Label, Steps};
 use std::alloc::Global;
 use std::sync::ledger::Ledger;
 
-/// The labels that the viewer is shown, as `resolve` would settle them. Where nothing is stale,
-/// these are those of the cache, and nothing is asked; else the labels that are linked to what is
-/// stale are tried, or all live ones where these are many. What is remembered isn't asked again.
+/// The labels that the viewer is shown, as `resolve` would settle them. If none were settled yet,
+/// all live labels are tried, and nothing is remembered at first. If some were and nothing is
+/// stale, these are those of the cache, and nothing is asked. Else the labels that are linked to
+/// what is stale are tried, or all live ones if these are many. What is remembered isn't asked
+/// again.
 pub fn settle_cache<K: Keeper, M: Ledger>(
     work: &mut Work<'_, K>,
     app: &App,
@@ -41,6 +44,9 @@ pub fn settle_cache<K: Keeper, M: Ledger>(
     ensures valid { IsTold K.seen work.new →
         OnOk result (IsValidCache (application_of app.now) (worlds_of (state_of K.seen work.old))
         viewer.now cache.new) }
+    ensures bounded { IsTold K.seen work.new → cache.old.labels ≡ None →
+        AreFewEvaluations (application_of app.now) (state_of K.seen work.old) viewer.now
+        evaluations.old evaluations.new }
     ensures later { evaluations.old ≤ evaluations.new }
     ensures reads { ReadsWork K.seen work.old work.new result }
 {
@@ -60,8 +66,70 @@ fn copy_labels(alloc: Global, cache: &ViewerCache) -> Result<Assignment, Memory>
     }
 }
 
-// Settles the cache, where it isn't at rest.
+// Settles the cache.
 fn settle_anew<K: Keeper, M: Ledger>(
+    work: &mut Work<'_, K>,
+    app: &App,
+    viewer: &Option<Id>,
+    cache: &mut ViewerCache,
+    evaluations: &mut Steps<M>,
+) -> Result<(), Stop>
+    requires attached { IsTrue (K.seen work.old.keeper.now).store.attached }
+    requires sound { IsTold K.seen work.old → HasSoundTables (state_of K.seen work.old) }
+    requires valid { IsTold K.seen work.old →
+        IsValidCache (application_of app.now)
+        (worlds_of (state_of K.seen work.old)) viewer.now cache.old }
+    ensures valid { IsTold K.seen work.new →
+        OnOk result (IsValidCache (application_of app.now) (worlds_of (state_of K.seen work.old))
+        viewer.now cache.new) }
+    ensures rests { OnOk result (IsAtRest cache.new) }
+    ensures bounded { IsTold K.seen work.new → cache.old.labels ≡ None →
+        AreFewEvaluations (application_of app.now) (state_of K.seen work.old) viewer.now
+        evaluations.old evaluations.new }
+    ensures later { evaluations.old ≤ evaluations.new }
+    ensures reads { ReadsWork K.seen work.old work.new result }
+{
+    match cache.labels {
+        None => settle_first(work, app, viewer, cache, evaluations),
+        Some(_) => settle_again(work, app, viewer, cache, evaluations),
+    }
+}
+
+// Settles the cache for the first time. All live labels are tried, and nothing is remembered.
+fn settle_first<K: Keeper, M: Ledger>(
+    work: &mut Work<'_, K>,
+    app: &App,
+    viewer: &Option<Id>,
+    cache: &mut ViewerCache,
+    evaluations: &mut Steps<M>,
+) -> Result<(), Stop>
+    requires attached { IsTrue (K.seen work.old.keeper.now).store.attached }
+    requires sound { IsTold K.seen work.old → HasSoundTables (state_of K.seen work.old) }
+    requires unsettled { cache.old.labels ≡ None }
+    ensures valid { IsTold K.seen work.new →
+        OnOk result (IsValidCache (application_of app.now) (worlds_of (state_of K.seen work.old))
+        viewer.now cache.new) }
+    ensures rests { OnOk result (IsAtRest cache.new) }
+    ensures bounded { IsTold K.seen work.new →
+        AreFewEvaluations (application_of app.now) (state_of K.seen work.old) viewer.now
+        evaluations.old evaluations.new }
+    ensures later { evaluations.old ≤ evaluations.new }
+    ensures reads { ReadsWork K.seen work.old work.new result }
+{
+    forget_answers(work.alloc, cache);
+    settle_all(work, app, viewer, cache, evaluations)
+}
+
+// Nothing is remembered any longer.
+fn forget_answers(alloc: Global, cache: &mut ViewerCache)
+    ensures empty { IsEmptyMemo cache.new.answers }
+    ensures labels { cache.new.labels ≡ cache.old.labels }
+{
+    cache.answers = PolicyMemo::empty(alloc);
+}
+
+// Settles a cache that was settled before, where it isn't at rest.
+fn settle_again<K: Keeper, M: Ledger>(
     work: &mut Work<'_, K>,
     app: &App,
     viewer: &Option<Id>,
@@ -281,6 +349,9 @@ fn settle_all<K: Keeper, M: Ledger>(
         OnOk result (IsValidCache (application_of app.now) (worlds_of (state_of K.seen work.old))
         viewer.now cache.new) }
     ensures rests { OnOk result (IsAtRest cache.new) }
+    ensures few { IsTold K.seen work.new → IsEmptyMemo cache.old.answers →
+        AreFewEvaluations (application_of app.now) (state_of K.seen work.old) viewer.now
+        evaluations.old evaluations.new }
     ensures later { evaluations.old ≤ evaluations.new }
     ensures reads { ReadsWork K.seen work.old work.new result }
 {

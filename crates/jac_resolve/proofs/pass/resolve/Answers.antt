@@ -5,28 +5,29 @@ use Rattle.jac_rows.specs.declared.state.State.{State}
 use Rattle.jac_keep.specs.WorkState.{state_of}
 use Rattle.jac_pruned.specs.Local.{IsLocalCase}
 use Rattle.jac_resolve.specs.Rounds.{AreLive}
-use Rattle.jac_resolve.proofs.Room.{live_most}
+use Rattle.jac_resolve.proofs.Room.{live_asked, none_asked}
 use Rattle.jac_resolve.proofs.pass.resolve.Goals as goal
 use Rattle.jac_plain.specs.Shown.{worlds_of}
 
+pub returns-in_err-labels-clause-bounded : goal.returns-in_err-labels-clause-bounded
+returns-in_err-labels-clause-bounded g c told = none_asked (application_of c.args.app.now) (state_of g.K.Keeper.seen c.args.work.now) c.args.viewer c.args.evaluations.now
+
 pub returns-in_err-assignment-clause-bounded : goal.returns-in_err-assignment-clause-bounded
-returns-in_err-assignment-clause-bounded g c told local labels up live =
+returns-in_err-assignment-clause-bounded g c told =
     let app = application_of c.args.app.now in
-    let worlds = worlds_of (state_of g.K.Keeper.seen c.args.work.now) in
+    let s = state_of g.K.Keeper.seen c.args.work.now in
     let before = c.in_err-assignment.ensures.reads.same.told told in
     let moved = c.in_ok-labels.ensures.reads.same.same_state before in
-    let xs = c.as_slice.result.now in
-    live_most app worlds xs labels c.args.evaluations.now c.settle.new.evaluations (subst IsAscending (sym c.as_slice.ensures.labels) c.as_slice.ensures.ascending) up
-    (subst (λ (l : List ℕ). AreLive app worlds l) (sym c.as_slice.ensures.labels) (c.in_ok-labels.ensures.live before)) live
-    (c.in_err-assignment.ensures.bounded told (subst (λ (s : State). IsLocalCase app s c.args.viewer) (sym moved) local))
+    live_asked app s c.args.viewer c.as_slice.result.now c.args.evaluations.now c.settle.new.evaluations (subst IsAscending (sym c.as_slice.ensures.labels) c.as_slice.ensures.ascending)
+    (subst (λ (l : List ℕ). AreLive app (worlds_of s) l) (sym c.as_slice.ensures.labels) (c.in_ok-labels.ensures.live before))
+    (λ local. c.in_err-assignment.ensures.bounded told (subst (λ (s : State). IsLocalCase app s c.args.viewer) (sym moved) local))
 
 pub returns-clause-bounded : goal.returns-clause-bounded
-returns-clause-bounded g c told local labels up live =
+returns-clause-bounded g c told =
     let app = application_of c.args.app.now in
-    let worlds = worlds_of (state_of g.K.Keeper.seen c.args.work.now) in
+    let s = state_of g.K.Keeper.seen c.args.work.now in
     let before = c.in_ok-assignment.ensures.reads.same.told told in
     let moved = c.in_ok-labels.ensures.reads.same.same_state before in
-    let xs = c.as_slice.result.now in
-    live_most app worlds xs labels c.args.evaluations.now c.settle.new.evaluations (subst IsAscending (sym c.as_slice.ensures.labels) c.as_slice.ensures.ascending) up
-    (subst (λ (l : List ℕ). AreLive app worlds l) (sym c.as_slice.ensures.labels) (c.in_ok-labels.ensures.live before)) live
-    (c.in_ok-assignment.ensures.bounded told (subst (λ (s : State). IsLocalCase app s c.args.viewer) (sym moved) local))
+    live_asked app s c.args.viewer c.as_slice.result.now c.args.evaluations.now c.settle.new.evaluations (subst IsAscending (sym c.as_slice.ensures.labels) c.as_slice.ensures.ascending)
+    (subst (λ (l : List ℕ). AreLive app (worlds_of s) l) (sym c.as_slice.ensures.labels) (c.in_ok-labels.ensures.live before))
+    (λ local. c.in_ok-assignment.ensures.bounded told (subst (λ (s : State). IsLocalCase app s c.args.viewer) (sym moved) local))
