@@ -17,7 +17,8 @@ use Rattle.jac_route.specs.Found.{found}
 use Rattle.jac_route.specs.declared.lookup.Found.{Found}
 use Rattle.jac_route.specs.declared.lookup.Found.TheVariants as founds
 use Rattle.jac_route.specs.declared.pairs.Pair.{Pair}
-use Rattle.jac_engine.specs.Prepared.{IsPrepared, applied_if}
+use Rattle.jac_resolve.proofs.Room.{none_asked}
+use Rattle.jac_engine.specs.Prepared.{AsksFew, IsPrepared, applied_if}
 use Rattle.jac_app_load.specs.Served.{are_served}
 use Rattle.jac_engine.specs.Start.{IsStart}
 use Rattle.jac_engine.specs.Viewed.{IsPreparedBy, IsPreparedFor}
@@ -151,3 +152,16 @@ is_prepared lazy tells app s ask p served few start h =
       start = λ told. start_for lazy f tells app s ask p h told (start told);
       good = good_for lazy f tells app s ask p served few h;
     }
+
+-- no policy was asked
+pub asks_none : (lazy tells : Bool) (app : Application) (s : State) (viewer : Option ℕ) (settled : Option (List ℕ)) (now : ℕ) (p : Prepared) → AsksFew lazy tells app s viewer settled now now p
+asks_none lazy tells app s viewer settled now p = record { few = λ eager told none. none_asked app (applied_if p.change s) viewer now }
+
+-- where a page resolves only what it consults, nothing is said
+pub asks_lazily : (lazy tells : Bool) (app : Application) (s : State) (viewer : Option ℕ) (settled : Option (List ℕ)) (before now : ℕ) (p : Prepared) → lazy ≡ true → AsksFew lazy tells app s viewer settled before now p
+asks_lazily lazy tells app s viewer settled before now p is = record { few = λ eager told none. absurd (let e : true ≡ false = sym is ∙ eager in cc) }
+
+-- and where it doesn't, what is said of it is said in either manner
+pub asks_eagerly : (lazy tells : Bool) (app : Application) (s : State) (viewer : Option ℕ) (settled : Option (List ℕ)) (before now : ℕ) (p : Prepared) → AsksFew false tells app s viewer settled before now p →
+    AsksFew lazy tells app s viewer settled before now p
+asks_eagerly lazy tells app s viewer settled before now p asks = record { few = λ eager told none. asks.few refl told none }

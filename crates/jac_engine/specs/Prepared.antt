@@ -1,8 +1,9 @@
 -- What answers a request before anything is stored.
-use Rattle.std.specs.Prelude.{◌≡◌, ℕ, Bool, IsTrue, Option, Some, None, is_some, ⊤}
+use Rattle.std.specs.Prelude.{◌≡◌, ℕ, Bool, false, IsTrue, List, Option, Some, None, is_some, ⊤}
 use Rattle.jac_lang.specs.Syntax.{Application}
 use Rattle.jac_rows.specs.Good.{IsGood}
 use Rattle.jac_rows.specs.Project.{project_at}
+use Rattle.jac_rows.specs.declared.row.Row.{Row}
 use Rattle.jac_rows.specs.declared.state.State.{State}
 use Rattle.jac_plain.specs.Models.{shapes_of}
 use Rattle.jac_plain.specs.Requests.{Worlds}
@@ -15,6 +16,7 @@ use Rattle.jac_engine.specs.declared.answer.Prepared.{Prepared}
 use Rattle.jac_engine.specs.declared.answer.PreparedWithCache.{PreparedWithCache}
 use Rattle.jac_policy_cache.specs.Affected.{IsCovered}
 use Rattle.jac_policy_cache.specs.declared.invalidation.Invalidation.{Invalidation}
+use Rattle.jac_resolve.specs.Rounds.{AreFewEvaluations}
 use Rattle.jac_resolve.specs.ValidCache.{IsValidCache}
 use Rattle.jac_plain.specs.Shown.{worlds_of}
 
@@ -55,3 +57,16 @@ pub record KeepsCache (tells : Bool) (app : Application) (s : State) (viewer : O
   pub valid : IsTrue tells
       → IsValidCache app (worlds_of (applied_if it.prepared.change s)) viewer it.cache
   pub affected : IsTrue tells → IsInvalidationOf app s it.prepared.change it.invalidation
+
+-- where all labels of a page are settled, the state is told, and none were settled before for who
+-- asks, policies were evaluated few times for the live labels of the state that is left
+pub record AsksFew (lazy tells : Bool) (app : Application) (s : State) (viewer : Option ℕ)
+    (settled : Option (List ℕ)) (before now : ℕ) (p : Prepared) : Type 0 where
+  pub few : lazy ≡ false → IsTrue tells → settled ≡ None
+      → AreFewEvaluations app (applied_if p.change s) viewer before now
+
+-- the same over the tables that are left, whatever the next number
+pub record AsksFewOver (app : Application) (viewer : Option ℕ) (settled : Option (List ℕ))
+    (before now : ℕ) (tables : List (List Row)) : Type 0 where
+  pub few : (n : ℕ) → settled ≡ None
+      → AreFewEvaluations app (record { tables = tables; number = n }) viewer before now

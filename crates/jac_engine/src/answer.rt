@@ -11,7 +11,7 @@ ghost use Rattle.jac_route.specs.Found.{found, IsWithin};
 ghost use Rattle.jac_route.specs.Routes.{AreRoutes};
 ghost use Rattle.jac_engine.specs.Answers.{page_answer, lazy_answer, is_post, stores};
 ghost use Rattle.jac_resolve.specs.ValidCache.{IsValidCache};
-ghost use Rattle.jac_engine.specs.Prepared.{IsPrepared, IsInvalidationOf, KeepsCache, applied_if};
+ghost use Rattle.jac_engine.specs.Prepared.{AsksFew, IsPrepared, IsInvalidationOf, KeepsCache, applied_if};
 ghost use Rattle.jac_app_load.specs.Served.{are_served, is_served_body};
 ghost use Rattle.jac_engine.specs.Start.{IsStart};
 ghost use Rattle.jac_engine.specs.Visits.{app_of, visit_at, viewer_at};
@@ -44,8 +44,8 @@ pub struct Prepared {
     pub change: Option<Change>,
 }
 
-/// What was prepared, what is settled for who asks on what it leaves, and what its change may
-/// affect, where there is one.
+/// The prepared answer, the viewer's cache on the state after it, and what its change may affect,
+/// if there is a change.
 #[derive(Drop)]
 pub struct PreparedWithCache {
     pub prepared: Prepared,
@@ -58,13 +58,13 @@ pub struct PreparedWithCache {
 struct Manner {
     // Of a GET's page only those are resolved that it consults.
     lazy: bool,
-    // What was settled for who asks.
+    // The cache of the viewer.
     cache: ViewerCache,
 }
 
 /// Answers the request on what the keeper keeps, and changes nothing. The labels of a page are
-/// settled for who looks: on what is kept for a GET, on what the request leaves for a POST. Where
-/// `lazy` is set, those of a GET's page are steady for who looks instead, and only labels were
+/// settled for the viewer: on the stored state for a GET, on the state after it for a POST. Where
+/// `lazy` is set, those of a GET's page are steady for the viewer instead, and only labels were
 /// resolved that the page and their policies consulted. Each policy that is asked counts in
 /// `evaluations`.
 pub fn prepare<K: Keeper, L: Ledger, M: Ledger>(
@@ -81,6 +81,9 @@ pub fn prepare<K: Keeper, L: Ledger, M: Ledger>(
         → IsStart (application_of service.now) (K.seen keeper.old).state }
     ensures prepared { IfOk result (IsPrepared lazy (K.seen keeper.new).tells
         (application_of service.now) (K.seen keeper.old).state ask.now) }
+    ensures bounded { IfOk result (AsksFew lazy (K.seen keeper.new).tells
+        (application_of service.now) (K.seen keeper.old).state ask.now.viewer None
+        evaluations.old evaluations.new) }
     ensures unsplit { IfOk result (λ p. IsNone p.change → splits.new ≡ splits.old) }
     ensures reading { stores (application_of service.now) ask.now ≡ false
         → splits.new ≡ splits.old }
@@ -104,8 +107,8 @@ fn prepared_of(valid: PreparedWithCache) -> Prepared
     prepared
 }
 
-/// The same where `lazy` isn't set, over what was settled for who asks on what the keeper keeps:
-/// what is stale is settled again, and no policy is asked whose answer is remembered.
+/// The same without `lazy`, over the viewer's cache: stale labels are settled again, and no policy
+/// is asked whose answer is remembered.
 pub fn prepare_with_cache<K: Keeper, L: Ledger, M: Ledger>(
     alloc: Global,
     service: &Service,
@@ -129,6 +132,9 @@ pub fn prepare_with_cache<K: Keeper, L: Ledger, M: Ledger>(
         ask.now.viewer r.cache) }
     ensures affected { IsTrue (K.seen keeper.new).tells → IfOk result (λ r. IsInvalidationOf
         (application_of service.now) (K.seen keeper.old).state r.prepared.change r.invalidation) }
+    ensures bounded { IfOk result (λ r. AsksFew false (K.seen keeper.new).tells
+        (application_of service.now) (K.seen keeper.old).state ask.now.viewer cache.labels
+        evaluations.old evaluations.new r.prepared) }
     ensures unsplit { IfOk result (λ r. IsNone r.prepared.change → splits.new ≡ splits.old) }
     ensures reading { stores (application_of service.now) ask.now ≡ false
         → splits.new ≡ splits.old }
@@ -159,6 +165,9 @@ fn prepare_by<K: Keeper, L: Ledger, M: Ledger>(
         (application_of service.now) (K.seen keeper.old).state ask.now r.prepared) }
     ensures keeps { IfOk result (KeepsCache (K.seen keeper.new).tells
         (application_of service.now) (K.seen keeper.old).state ask.now.viewer) }
+    ensures bounded { IfOk result (λ r. AsksFew manner.lazy (K.seen keeper.new).tells
+        (application_of service.now) (K.seen keeper.old).state ask.now.viewer
+        manner.cache.labels evaluations.old evaluations.new r.prepared) }
     ensures unsplit { IfOk result (λ r. IsNone r.prepared.change → splits.new ≡ splits.old) }
     ensures reading { stores (application_of service.now) ask.now ≡ false
         → splits.new ≡ splits.old }
@@ -190,6 +199,9 @@ fn prepare_found<K: Keeper, L: Ledger, M: Ledger>(
         (application_of service.now) (K.seen keeper.old).state ask.now r.prepared) }
     ensures keeps { IfOk result (KeepsCache (K.seen keeper.new).tells
         (application_of service.now) (K.seen keeper.old).state ask.now.viewer) }
+    ensures bounded { IfOk result (λ r. AsksFew manner.lazy (K.seen keeper.new).tells
+        (application_of service.now) (K.seen keeper.old).state ask.now.viewer
+        manner.cache.labels evaluations.old evaluations.new r.prepared) }
     ensures unsplit { IfOk result (λ r. IsNone r.prepared.change → splits.new ≡ splits.old) }
     ensures reading { stores (application_of service.now) ask.now ≡ false
         → splits.new ≡ splits.old }
@@ -265,6 +277,9 @@ fn answer_view<K: Keeper, L: Ledger, M: Ledger>(
         (visit_at visited.now) r.prepared) }
     ensures keeps { IfOk result (KeepsCache (K.seen keeper.new).tells (app_of visited.now)
         (K.seen keeper.old).state (viewer_at visited.now)) }
+    ensures bounded { IfOk result (λ r. AsksFew manner.lazy (K.seen keeper.new).tells
+        (app_of visited.now) (K.seen keeper.old).state (viewer_at visited.now)
+        manner.cache.labels evaluations.old evaluations.new r.prepared) }
     ensures unsplit { IfOk result (λ r. IsNone r.prepared.change → splits.new ≡ splits.old) }
     ensures reading { is_post (method_in (slice_get (app_of visited.now).views visited.now.place))
         ≡ false → splits.new ≡ splits.old }
@@ -304,6 +319,9 @@ fn show_by<K: Keeper, M: Ledger>(
         (app_of visited.now) (K.seen keeper.old).state (visit_at visited.now) r.prepared) }
     ensures keeps { IfOk result (KeepsCache (K.seen keeper.new).tells (app_of visited.now)
         (K.seen keeper.old).state (viewer_at visited.now)) }
+    ensures bounded { IfOk result (λ r. AsksFew manner.lazy (K.seen keeper.new).tells
+        (app_of visited.now) (K.seen keeper.old).state (viewer_at visited.now)
+        manner.cache.labels evaluations.old evaluations.new r.prepared) }
     ensures reads { Reads (K.seen keeper.old) (K.seen keeper.new) result }
 {
     let Manner { lazy, cache } = manner;
@@ -335,6 +353,9 @@ fn show<K: Keeper, M: Ledger>(
         (app_of visited.now) (K.seen keeper.old).state (visit_at visited.now) r.prepared) }
     ensures keeps { IfOk result (KeepsCache (K.seen keeper.new).tells (app_of visited.now)
         (K.seen keeper.old).state (viewer_at visited.now)) }
+    ensures bounded { IfOk result (λ r. AsksFew false (K.seen keeper.new).tells
+        (app_of visited.now) (K.seen keeper.old).state (viewer_at visited.now)
+        cache.labels evaluations.old evaluations.new r.prepared) }
     ensures reads { Reads (K.seen keeper.old) (K.seen keeper.new) result }
 {
     let number = keeper.number()?;
@@ -399,6 +420,9 @@ fn store<K: Keeper, L: Ledger, M: Ledger>(
         (app_of visited.now) (K.seen keeper.old).state (visit_at visited.now) r.prepared) }
     ensures keeps { IfOk result (KeepsCache (K.seen keeper.new).tells (app_of visited.now)
         (K.seen keeper.old).state (viewer_at visited.now)) }
+    ensures bounded { IfOk result (λ r. AsksFew false (K.seen keeper.new).tells
+        (app_of visited.now) (K.seen keeper.old).state (viewer_at visited.now)
+        cache.labels evaluations.old evaluations.new r.prepared) }
     ensures unsplit { IfOk result (λ r. IsNone r.prepared.change → splits.new ≡ splits.old) }
     ensures reads { Reads (K.seen keeper.old) (K.seen keeper.new) result }
 {

@@ -1,5 +1,5 @@
 //! One run of a view over a keeper, and the labels that its page is made under.
-ghost use Rattle.std.specs.Prelude.{◌≡◌, ◌<◌, ◌≤◌, ◌+◌, ◌^◌, true, length, slice_get, IfOk, OnOk, IsErrOf, IsTrue, Some};
+ghost use Rattle.std.specs.Prelude.{◌≡◌, ◌<◌, ◌≤◌, ◌+◌, ◌^◌, true, length, slice_get, IfOk, OnOk, IsErrOf, IsTrue, None, Some};
 ghost use Rattle.jac_io.specs.Faults.{Rose};
 ghost use Rattle.jac_keep.specs.KeeperSeen.{IsLeft};
 ghost use Rattle.jac_keep.specs.ChangedState.{changed_state};
@@ -10,8 +10,9 @@ ghost use Rattle.jac_stmt.specs.Runs.{AreRunnable};
 ghost use Rattle.jac_write.specs.Writes.{StaysTold};
 ghost use Rattle.jac_plain.specs.Policies.{IsSettled};
 ghost use Rattle.jac_plain.specs.Reading.{are_reading};
+ghost use Rattle.jac_resolve.specs.Rounds.{AreFewEvaluations};
 ghost use Rattle.jac_resolve.specs.ValidCache.{IsValidCache};
-ghost use Rattle.jac_engine.specs.Prepared.{AreCovered};
+ghost use Rattle.jac_engine.specs.Prepared.{AreCovered, AsksFewOver};
 ghost use Rattle.jac_engine.specs.Visits.{app_of, found_view, request_at, viewer_at, visit_at};
 ghost use Rattle.jac_lazy.specs.Steady.{IsPageOf, IsSteady};
 ghost use Rattle.jac_engine.specs.Views.{IsReady, SettlesView, ShowsView, LeavesTables, RunsView};
@@ -56,9 +57,8 @@ pub(crate) struct Stored {
     pub(crate) invalidation: Invalidation,
 }
 
-/// The page of the view, which writes nothing, under labels that are settled on what the keeper
-/// keeps: those of the cache, once what is stale was settled again. It is run in the one world that
-/// they show.
+/// The page of a view that writes nothing, made in the one world that the cache's labels show.
+/// Stale ones are settled again on the stored state before.
 pub(crate) fn shown_page<K: Keeper, M: Ledger>(
     alloc: Global,
     keeper: &mut K,
@@ -83,6 +83,9 @@ pub(crate) fn shown_page<K: Keeper, M: Ledger>(
     ensures valid { IsTrue (K.seen keeper.new).tells → OnOk result (IsValidCache
         (app_of visited.now) (worlds_of (K.seen keeper.old).state) (viewer_at visited.now)
         cache.new) }
+    ensures bounded { IsTrue (K.seen keeper.new).tells → cache.old.labels ≡ None
+        → OnOk result (AreFewEvaluations (app_of visited.now) (K.seen keeper.old).state
+        (viewer_at visited.now) evaluations.old evaluations.new) }
     ensures left { IsLeft (K.seen keeper.old) (K.seen keeper.new) }
     ensures rose { IsErrOf result Stop.Keeper
         → Rose (K.seen keeper.old).faults (K.seen keeper.new).faults }
@@ -186,6 +189,9 @@ fn show_view<K: Keeper, M: Ledger>(
         (worlds_of (state_of K.seen work.old)) (viewer_at visited.now) x.labels) }
     ensures valid { IsTold K.seen work.new → OnOk result (IsValidCache (app_of visited.now)
         (worlds_of (state_of K.seen work.old)) (viewer_at visited.now) cache.new) }
+    ensures bounded { IsTold K.seen work.new → cache.old.labels ≡ None
+        → OnOk result (AreFewEvaluations (app_of visited.now) (state_of K.seen work.old)
+        (viewer_at visited.now) evaluations.old evaluations.new) }
     ensures told { OnOk result (StaysTold K.seen work.old work.new) }
     ensures keeps { WritesWork K.seen work.old work.new result }
 {
@@ -238,9 +244,8 @@ fn context(visited: &Visited<'_>, number: u64) -> Ctx
     }
 }
 
-/// The page of the view, under labels that are settled on what its run leaves, what is to be
-/// stored, and what that may affect. What was settled for who asks is settled on what the run
-/// leaves.
+/// The page of the view under labels that are settled after its run, the change to store, and what
+/// that may affect. The viewer's cache is settled after the run too.
 pub(crate) fn stored_page<K: Keeper, L: Ledger, M: Ledger>(
     alloc: Global,
     keeper: &mut K,
@@ -271,6 +276,9 @@ pub(crate) fn stored_page<K: Keeper, L: Ledger, M: Ledger>(
     ensures stored { IsTrue (K.seen keeper.new).tells → IfOk result (λ x. LeavesTables
         (app_of visited.now) (found_view visited.now) (request_at visited.now) number
         (K.seen keeper.old).state (changed_state x.change (K.seen keeper.old).state).tables) }
+    ensures bounded { IsTrue (K.seen keeper.new).tells → IfOk result (λ x. AsksFewOver
+        (app_of visited.now) (viewer_at visited.now) cache.old.labels evaluations.old
+        evaluations.new (changed_state x.change (K.seen keeper.old).state).tables) }
     ensures number { IfOk result (λ x. x.change.number ≡ number + 1) }
     ensures left { IsLeft (K.seen keeper.old) (K.seen keeper.new) }
     ensures rose { IsErrOf result Stop.Keeper
@@ -318,6 +326,9 @@ fn settle_view<K: Keeper, L: Ledger, M: Ledger>(
     ensures stored { IsTold K.seen work.new → OnOk result (LeavesTables (app_of visited.now)
         (found_view visited.now) (request_at visited.now) number (state_of K.seen work.old)
         (state_of K.seen work.new).tables) }
+    ensures bounded { IsTold K.seen work.new → OnOk result (AsksFewOver (app_of visited.now)
+        (viewer_at visited.now) cache.old.labels evaluations.old evaluations.new
+        (state_of K.seen work.new).tables) }
     ensures told { OnOk result (StaysTold K.seen work.old work.new) }
     ensures keeps { WritesWork K.seen work.old work.new result }
 {
@@ -360,6 +371,9 @@ fn store_view<K: Keeper, L: Ledger, M: Ledger>(
     ensures stored { IsTold K.seen work.new → OnOk result (LeavesTables (app_of visited.now)
         (found_view visited.now) (request_at visited.now) number (state_of K.seen work.old)
         (state_of K.seen work.new).tables) }
+    ensures bounded { IsTold K.seen work.new → cache.old.labels ≡ None
+        → OnOk result (AreFewEvaluations (app_of visited.now) (state_of K.seen work.new)
+        (viewer_at visited.now) evaluations.old evaluations.new) }
     ensures told { OnOk result (StaysTold K.seen work.old work.new) }
     ensures keeps { WritesWork K.seen work.old work.new result }
 {
@@ -392,6 +406,7 @@ fn invalidate_cache<K: Keeper>(
         (worlds_of (state_of K.seen work.old)) (viewer_at visited.now) cache.new) }
     ensures affected { IsTold K.seen work.new → IfOk result (AreCovered (app_of visited.now)
         (K.seen work.old.keeper.now).state (state_of K.seen work.old)) }
+    ensures labels { OnOk result (cache.new.labels ≡ cache.old.labels) }
     ensures reads { ReadsWork K.seen work.old work.new result }
 {
     cache_moves();

@@ -11,3 +11,7 @@ returns-clause-prepared g c = rw c.prepared_of.ensures c.in_ok-valid.ensures.pre
 
 pub returns-clause-unsplit : goal.returns-clause-unsplit
 returns-clause-unsplit g c = rw c.prepared_of.ensures c.in_ok-valid.ensures.unsplit
+
+pub returns-clause-bounded : goal.returns-clause-bounded
+returns-clause-bounded g c =
+    rw c.prepared_of.ensures (record { few = λ eager told none. c.in_ok-valid.ensures.bounded.few eager told c.empty-cache.ensures.labels })

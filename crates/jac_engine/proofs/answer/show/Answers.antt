@@ -54,3 +54,8 @@ returns-clause-keeps g c =
       valid = λ told. rw (left.same_state (c.in_ok-shown.ensures.left.told told)) at (c.in_ok-shown.ensures.valid told);
       affected = λ told. tt;
     }
+
+pub returns-clause-bounded : goal.returns-clause-bounded
+returns-clause-bounded g c =
+    let left = c.in_ok-number.ensures.reads.left in
+    record { few = λ eager told none. rw (left.same_state (c.in_ok-shown.ensures.left.told told)) at (c.in_ok-shown.ensures.bounded told none) }

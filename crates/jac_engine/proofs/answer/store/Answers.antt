@@ -78,3 +78,9 @@ returns-clause-keeps g c =
       valid = λ told. (rw (left.same_state (c.in_ok-stored.ensures.left.told told)) at (c.in_ok-stored.ensures.settles told)).valid change.number;
       affected = λ told. (rw (left.same_state (c.in_ok-stored.ensures.left.told told)) at (c.in_ok-stored.ensures.settles told)).affected change.number;
     }
+
+pub returns-clause-bounded : goal.returns-clause-bounded
+returns-clause-bounded g c =
+    let left = c.in_ok-number.ensures.reads.left in
+    let change = c.in_ok-stored.stored.change in
+    record { few = λ eager told none. (rw (left.same_state (c.in_ok-stored.ensures.left.told told)) at (c.in_ok-stored.ensures.bounded told)).few change.number none }
