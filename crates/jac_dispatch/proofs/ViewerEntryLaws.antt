@@ -20,7 +20,7 @@ use Rattle.jac_engine.specs.Start.{IsStart}
 use Rattle.jac_engine.specs.declared.answer.Prepared.{Prepared}
 use Rattle.jac_viewer_caches.specs.CacheEntries.{IsOneOf, entry_of}
 use Rattle.jac_viewer_caches.specs.declared.viewer_caches.ViewerEntry.{ViewerEntry}
-use Rattle.jac_dispatch.specs.Answered.{DispatcherOf, AreValidCaches, AreAffected, AreInvalidatedIf, IsPutBack}
+use Rattle.jac_dispatch.specs.Answered.{DispatcherOf, AreValidCaches, AreAffected, AreInvalidatedIf, HasNoCache, IsPutBack}
 use Rattle.jac_plain.specs.Shown.{worlds_of}
 
 none_in : {P : Type 0} (s : ViewerEntry) (viewer_caches : List ViewerEntry) → viewer_caches ≡ [] → IsOneOf s viewer_caches → P
@@ -55,6 +55,11 @@ pub taken_valid : (app : Application) (k : KeeperSeen) (viewer_caches : List Vie
     → AreValidCaches app k viewer_caches → IsOneOf (entry_of viewer cache) viewer_caches ⊎ IsEmptyCache cache → IsTrue k.tells → IsValidCache app (worlds_of k.state) viewer cache
 taken_valid app k viewer_caches viewer cache empty valid (inl kept) told = valid.each told (entry_of viewer cache) kept
 taken_valid app k viewer_caches viewer cache empty valid (inr none) told = empty app (worlds_of k.state) viewer cache none
+
+-- and where nothing is kept, it has no labels
+pub taken_first : (viewer_caches : List ViewerEntry) (viewer : Option ℕ) (cache : ViewerCache) → HasNoCache viewer viewer_caches → IsOneOf (entry_of viewer cache) viewer_caches ⊎ IsEmptyCache cache → cache.labels ≡ None
+taken_first viewer_caches viewer cache nothing (inl kept) = let never : ⊥ = nothing.none cache kept in absurd never
+taken_first viewer_caches viewer cache nothing (inr empty) = empty.labels
 
 -- settled on what stands before a change, and on what stands after it
 record IsValidTwice (app : Application) (s later : State) (x : ViewerEntry) : Type 0 where

@@ -21,6 +21,7 @@ use Rattle.jac_replies.specs.Spelled.{spelled_bytes, audit_rest}
 use Rattle.jac_route.specs.declared.sessions.Session.{Session}
 use Rattle.jac_policy_cache.specs.declared.viewer_cache.ViewerCache.{ViewerCache}
 use Rattle.jac_policy_cache.specs.declared.invalidation.Invalidation.{Invalidation}
+use Rattle.jac_resolve.specs.Rounds.{AreFewEvaluations}
 use Rattle.jac_resolve.specs.ValidCache.{IsValidCache}
 use Rattle.jac_rows.specs.declared.state.State.{State}
 use Rattle.jac_keep.specs.declared.alteration.Change.{Change}
@@ -121,6 +122,17 @@ pub record AreValidCaches (app : Application) (k : KeeperSeen)
     (viewer_caches : List ViewerEntry) : Type 0 where
   pub each : IsTrue k.tells → (s : ViewerEntry) → IsOneOf s viewer_caches
       → IsValidCache app (worlds_of k.state) s.viewer s.cache
+
+-- nothing is kept for this viewer
+pub record HasNoCache (viewer : Option ℕ) (viewer_caches : List ViewerEntry) : Type 0 where
+  pub none : (cache : ViewerCache) → IsOneOf (entry_of viewer cache) viewer_caches → ⊥
+
+-- where all labels of a page are settled, the state is told, and nothing was kept for who asks,
+-- policies were evaluated few times for the live labels of the state
+pub record AsksFewAtFirst (lazy tells : Bool) (app : Application) (s : State) (viewer : Option ℕ)
+    (viewer_caches : List ViewerEntry) (before now : ℕ) : Type 0 where
+  pub few : lazy ≡ false → IsTrue tells → HasNoCache viewer viewer_caches
+      → AreFewEvaluations app s viewer before now
 
 -- the change has its invalidation, or nothing is kept that it could affect
 abbrev pub AreAffected : Application → State → Option Change → Option Invalidation → List

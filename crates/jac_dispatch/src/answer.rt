@@ -15,7 +15,7 @@ ghost use Rattle.jac_serve_events.specs.AnswerSpec.{is_failure};
 ghost use Rattle.jac_serve_events.specs.Dispatcher.{kept};
 ghost use Rattle.jac_serve_events.specs.Log.{reply_on};
 ghost use Rattle.jac_replies.specs.Spelled.{audit_rest};
-ghost use Rattle.jac_dispatch.specs.Answered.{source_of, close_of, spelling_of, IsAnswerMade, AreValidCaches, AreAffected, AreInvalidatedIf, IsPutBack};
+ghost use Rattle.jac_dispatch.specs.Answered.{source_of, close_of, spelling_of, IsAnswerMade, AreValidCaches, AreAffected, AreInvalidatedIf, AsksFewAtFirst, IsPutBack};
 ghost use Rattle.jac_dispatch.specs.Seen.{whose, dispatcher_seen};
 ghost use Rattle.jac_plain.specs.Shown.{worlds_of};
 
@@ -54,9 +54,9 @@ pub struct AnswerLines {
 #[derive(Drop)]
 pub struct PendingAnswer {
     pub prepared: Prepared,
-    /// What is settled for who asks on what the answer leaves, where that is kept.
+    /// The viewer's cache on the state after the answer, if it is kept.
     pub cache: Option<ViewerCache>,
-    /// What its change may affect of what is kept for others.
+    /// What its change may affect in other viewers' caches.
     pub invalidation: Option<Invalidation>,
 }
 
@@ -113,10 +113,10 @@ fn make_lines(
     Ok(AnswerLines { reply, audit })
 }
 
-/// Answers one request and stores what it leaves. The lines of its reply are made before, so that
-/// nothing is stored without them. What was settled for a viewer is kept, and what a change may
-/// invalidate of it is settled again; of a lazily made page nothing is kept. After a fault of the
-/// keeper nothing is kept at all: what the keeper holds then may be something else.
+/// Answers one request and stores its change. The lines of its reply are made first, so nothing is
+/// stored without them. The viewer's cache is kept, and what the change may affect in it is settled
+/// again. A lazily made page keeps no cache. After a fault of the keeper all caches are dropped,
+/// since the store may hold something else then.
 pub fn answer_ask<K: Keeper, L: Ledger, M: Ledger>(
     dispatcher: &mut AppDispatcher<'_, '_, '_, '_, '_, '_, K, L, M>,
     via: RequestSource,
@@ -142,6 +142,10 @@ pub fn answer_ask<K: Keeper, L: Ledger, M: Ledger>(
     ensures settled { AreValidCaches (whose dispatcher.old).app (K.seen dispatcher.new.keeper.now)
         dispatcher.new.viewer_caches.now }
     ensures forgotten { IsErrOf result Stop.Keeper → dispatcher.new.viewer_caches.now ≡ [] }
+    ensures bounded { OnOk result (AsksFewAtFirst dispatcher.old.lazy
+        (K.seen dispatcher.new.keeper.now).tells (whose dispatcher.old).app
+        (K.seen dispatcher.new.keeper.now).state ask.now.viewer dispatcher.old.viewer_caches.now
+        dispatcher.old.evaluations.now dispatcher.new.evaluations.now) }
     ensures reading { stores (whose dispatcher.old).app ask.now ≡ false
         → dispatcher.new.splits.now ≡ dispatcher.old.splits.now }
     ensures same { whose dispatcher.new ≡ whose dispatcher.old }
@@ -181,6 +185,10 @@ fn answer_over_caches<K: Keeper, L: Ledger, M: Ledger>(
         (K.seen dispatcher.old.keeper.now).store }
     ensures settled { AreValidCaches (whose dispatcher.old).app (K.seen dispatcher.new.keeper.now)
         dispatcher.new.viewer_caches.now }
+    ensures bounded { OnOk result (AsksFewAtFirst dispatcher.old.lazy
+        (K.seen dispatcher.new.keeper.now).tells (whose dispatcher.old).app
+        (K.seen dispatcher.new.keeper.now).state ask.now.viewer dispatcher.old.viewer_caches.now
+        dispatcher.old.evaluations.now dispatcher.new.evaluations.now) }
     ensures reading { stores (whose dispatcher.old).app ask.now ≡ false
         → dispatcher.new.splits.now ≡ dispatcher.old.splits.now }
     ensures same { whose dispatcher.new ≡ whose dispatcher.old }
@@ -212,6 +220,11 @@ pub fn ready_answer<K: Keeper, L: Ledger, M: Ledger>(
         → IfOk result (λ r. AreAffected (whose dispatcher.old).app
         (K.seen dispatcher.old.keeper.now).state
         r.prepared.change r.invalidation dispatcher.new.viewer_caches.now) }
+    ensures bounded { IfOk result (λ r. AsksFewAtFirst dispatcher.old.lazy
+        (K.seen dispatcher.new.keeper.now).tells (whose dispatcher.old).app
+        (applied_if r.prepared.change (K.seen dispatcher.old.keeper.now).state) ask.now.viewer
+        dispatcher.old.viewer_caches.now dispatcher.old.evaluations.now
+        dispatcher.new.evaluations.now) }
     ensures unsplit { IfOk result (λ r. IsNone r.prepared.change
         → dispatcher.new.splits.now ≡ dispatcher.old.splits.now) }
     ensures reading { stores (whose dispatcher.old).app ask.now ≡ false
@@ -247,6 +260,11 @@ fn ready_lazily<K: Keeper, L: Ledger, M: Ledger>(
         → IfOk result (λ r. AreAffected (whose dispatcher.old).app
         (K.seen dispatcher.old.keeper.now).state
         r.prepared.change r.invalidation dispatcher.new.viewer_caches.now) }
+    ensures bounded { IfOk result (λ r. AsksFewAtFirst dispatcher.old.lazy
+        (K.seen dispatcher.new.keeper.now).tells (whose dispatcher.old).app
+        (applied_if r.prepared.change (K.seen dispatcher.old.keeper.now).state) ask.now.viewer
+        dispatcher.old.viewer_caches.now dispatcher.old.evaluations.now
+        dispatcher.new.evaluations.now) }
     ensures unsplit { IfOk result (λ r. IsNone r.prepared.change
         → dispatcher.new.splits.now ≡ dispatcher.old.splits.now) }
     ensures reading { stores (whose dispatcher.old).app ask.now ≡ false
@@ -296,6 +314,11 @@ fn ready_valid<K: Keeper, L: Ledger, M: Ledger>(
         → IfOk result (λ r. AreAffected (whose dispatcher.old).app
         (K.seen dispatcher.old.keeper.now).state
         r.prepared.change r.invalidation dispatcher.new.viewer_caches.now) }
+    ensures bounded { IfOk result (λ r. AsksFewAtFirst dispatcher.old.lazy
+        (K.seen dispatcher.new.keeper.now).tells (whose dispatcher.old).app
+        (applied_if r.prepared.change (K.seen dispatcher.old.keeper.now).state) ask.now.viewer
+        dispatcher.old.viewer_caches.now dispatcher.old.evaluations.now
+        dispatcher.new.evaluations.now) }
     ensures unsplit { IfOk result (λ r. IsNone r.prepared.change
         → dispatcher.new.splits.now ≡ dispatcher.old.splits.now) }
     ensures reading { stores (whose dispatcher.old).app ask.now ≡ false
@@ -352,8 +375,8 @@ fn take_cache(alloc: Global, viewer_caches: &mut ViewerCaches, viewer: &Option<I
     }
 }
 
-/// Stores what was prepared. What is kept for others is right on what stood before and on what
-/// stands then; what is settled for who asks is kept again where all went well.
+/// Stores the prepared change. Other viewers' caches are valid before it and after it. The asking
+/// viewer's cache is put back if all went well.
 pub fn store_answer<K: Keeper, L: Ledger, M: Ledger>(
     dispatcher: &mut AppDispatcher<'_, '_, '_, '_, '_, '_, K, L, M>,
     ask: &Ask,
@@ -386,6 +409,7 @@ pub fn store_answer<K: Keeper, L: Ledger, M: Ledger>(
     ensures settled { AreValidCaches (whose dispatcher.old).app (K.seen dispatcher.new.keeper.now)
         dispatcher.new.viewer_caches.now }
     ensures unsplit { dispatcher.new.splits.now ≡ dispatcher.old.splits.now }
+    ensures unasked { dispatcher.new.evaluations.now ≡ dispatcher.old.evaluations.now }
     ensures same { whose dispatcher.new ≡ whose dispatcher.old }
 {
     cache_moves();

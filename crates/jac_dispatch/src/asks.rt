@@ -10,7 +10,7 @@ use jac_route::{Sessions, pairs_of, viewer_id, viewer_of};
 use jac_value::{Bytes, Id, Memory, Txt};
 use std::alloc::Global;
 
-/// Who looks by the number of an `ask` line.
+/// The viewer that an `ask` line names by number.
 pub fn viewer_in(app: &App, number: Option<u128>) -> Option<Id>
     ensures { result ≡ viewer_in (application_of app.now) number }
 {
@@ -57,7 +57,7 @@ pub fn request_in(
     )
 }
 
-/// Who looks by the token of a request.
+/// The viewer of a request, by its token.
 pub fn request_viewer(app: &App, sessions: &Sessions, request: &Request) -> Option<Id>
     ensures { result ≡ (request_in (application_of app.now) sessions.now request.now).viewer }
 {

@@ -46,7 +46,7 @@ pub struct AppDispatcher<'k, 's, 'e, 'a, 'b, 't, K: Keeper, L: Ledger, M: Ledger
     pub sessions: &'b Sessions,
     /// A GET's page resolves only what it consults.
     pub lazy: bool,
-    /// What was settled for those who looked.
+    /// The caches of viewers.
     pub viewer_caches: &'t mut ViewerCaches,
 }
 

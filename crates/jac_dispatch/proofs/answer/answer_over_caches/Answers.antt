@@ -1,9 +1,10 @@
-use Rattle.std.proofs.Common.{◌≡◌, ◌∙◌, ap, sym, subst, IsTrue}
+use Rattle.std.proofs.Common.{◌≡◌, ◌∙◌, ap, sym, subst, ℕ, IsTrue}
 use Rattle.jac_rows.specs.Project.{project_at}
 use Rattle.jac_rows.specs.declared.state.State.{State}
 use Rattle.jac_lang.specs.Mirror.{application_of}
 use Rattle.jac_engine.specs.Answers.{HasForm}
 use Rattle.jac_engine.specs.Prepared.{IsPrepared, applied_if}
+use Rattle.jac_resolve.specs.Rounds.{AreFewEvaluations}
 use Rattle.jac_dispatch.specs.Answered.{AreValidCaches, AreAffected, DispatcherOf}
 use Rattle.jac_dispatch.specs.Seen.{whose}
 use Rattle.jac_dispatch.proofs.EntryLemmas.{servable, unapplied}
@@ -82,3 +83,23 @@ pub store_answer-requires-clause-settled : goal.store_answer-requires-clause-set
 store_answer-requires-clause-settled g c =
     let new = g.K.Keeper.seen c.ready_answer.new.dispatcher.keeper.now in
     subst (λ (of : DispatcherOf). AreValidCaches of.app new c.ready_answer.new.dispatcher.viewer_caches.now) (sym c.in_ok-ready.ensures.same) c.in_ok-ready.ensures.settled
+
+pub returns-clause-bounded : goal.returns-clause-bounded
+returns-clause-bounded g c =
+    let K = g.K.Keeper in
+    let before = c.args.dispatcher.now in
+    let ready = c.ready_answer.new.dispatcher in
+    let app = application_of before.service.now in
+    let viewer = c.args.ask.now.viewer in
+    let s = (K.seen before.keeper.now).state in
+    let later = (K.seen c.store_answer.new.dispatcher.keeper.now).state in
+    let p = c.in_ok-ready.ready.prepared in
+    let left = c.in_ok-ready.ensures.reads.left in
+    let stored : IsTrue (K.seen c.store_answer.new.dispatcher.keeper.now).tells → later ≡ applied_if p.change s =
+    λ told. rw (left.same_state (c.in_ok-store_answer.ensures.told told)) at (c.in_ok-store_answer.ensures.applied told) in
+    record {
+      few = λ eager told nothing.
+          subst (λ (n : ℕ). AreFewEvaluations app later viewer before.evaluations.now n) (sym c.in_ok-store_answer.ensures.unasked)
+          (subst (λ (x : State). AreFewEvaluations app x viewer before.evaluations.now ready.evaluations.now) (sym (stored told))
+          (c.in_ok-ready.ensures.bounded.few eager (c.in_ok-store_answer.ensures.told told) nothing));
+    }

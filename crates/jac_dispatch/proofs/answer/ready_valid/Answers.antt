@@ -1,6 +1,6 @@
-use Rattle.std.proofs.Common.{inr}
+use Rattle.std.proofs.Common.{inr, refl}
 use Rattle.jac_lang.specs.Mirror.{application_of}
-use Rattle.jac_dispatch.proofs.ViewerEntryLaws.{fewer_valid, taken_valid}
+use Rattle.jac_dispatch.proofs.ViewerEntryLaws.{fewer_valid, taken_first, taken_valid}
 use Rattle.jac_dispatch.proofs.answer.ready_valid.Goals as goal
 
 pub prepare_with_cache-requires-clause-valid : goal.prepare_with_cache-requires-clause-valid
@@ -31,3 +31,10 @@ returns-in_err-valid-clause-settled g c =
     let left = c.in_err-valid.ensures.reads.left in
     fewer_valid (application_of c.args.dispatcher.now.service.now) (K.seen c.args.dispatcher.now.keeper.now) (K.seen c.prepare_with_cache.new.keeper)
     c.args.dispatcher.now.viewer_caches.now c.take_cache-cache.new.viewer_caches left.told left.same_state c.take_cache-cache.ensures.left c.requires.settled
+
+pub returns-clause-bounded : goal.returns-clause-bounded
+returns-clause-bounded g c =
+    rw c.ready_of.ensures
+    (record {
+      few = λ eager told nothing. c.in_ok-valid.ensures.bounded.few refl told (taken_first c.args.dispatcher.now.viewer_caches.now c.args.ask.now.viewer c.take_cache-cache.result nothing c.take_cache-cache.ensures.taken);
+    })
