@@ -28,7 +28,6 @@ use Rattle.sqlite_schema.specs.declared.schema.Schema.{Schema}
 use Rattle.sqlite.specs.Effect.{Database}
 use Rattle.jac_sql_spec.specs.Lasting.{ConnectionLasts, IsSeenUnmoved}
 use Rattle.jac_sql_spec.specs.Tables.{no_tables, two_tables}
-use Rattle.jac_sqlkeep.specs.Kept.{KeeperGoesOn}
 use Rattle.jac_sqlkeep.specs.Based.{Based, based_keeper, DatabaseGoesOn, HasTables, Stood, Begins, IsWhole, ReadsBased, AppliesBased, ReshapesBased}
 
 never : {A : Type 0} → IsTrue false → A
@@ -173,13 +172,7 @@ module _ {S : Type 0} (g : Ghosts S) (kinds : List (List Kind)) (given h : Held 
 -- ---- from call to call
 
 module _ {S : Type 0} (g : Ghosts S) (kinds more : List (List Kind)) (old new : Held S) where
-  pub goes_by : (known : Bool) → ConnectionLasts (state g old) (state g new) → DatabaseGoesOn g (based_keeper g kinds known old) (based_keeper g more known new)
-  goes_by false lasts = record { tells = λ t. never t; clean = lasts.clean; counts = lasts.counts; closes = lasts.closes; sure = λ law opened. law new.store }
-  goes_by true lasts = record { tells = λ told opened. opened; clean = lasts.clean; counts = lasts.counts; closes = lasts.closes; sure = λ law opened. law new.store }
-
-goes_same : {S : Type 0} (g : Ghosts S) (b : Based) → DatabaseGoesOn g b b
-goes_same g b = record { tells = λ told opened. told; clean = omega arith; counts = omega arith; closes = λ clean opened. inl opened; sure = λ law opened. opened }
-
-pub goes_on_same : {S : Type 0} (g : Ghosts S) (o : Option Based) → KeeperGoesOn g o o
-goes_on_same g None = tt
-goes_on_same g (Some b) = goes_same g b
+  pub goes_by : (known : Bool) → ConnectionLasts (state g old) (state g new) → (IsTrue (state g new).is_open → IsTrue (state g old).is_open)
+      → DatabaseGoesOn g (based_keeper g kinds known old) (based_keeper g more known new)
+  goes_by false lasts opens = record { tells = λ t. never t; opens = opens; clean = lasts.clean; counts = lasts.counts; closes = lasts.closes; sure = λ law opened. law new.store }
+  goes_by true lasts opens = record { tells = λ told opened. opened; opens = opens; clean = lasts.clean; counts = lasts.counts; closes = lasts.closes; sure = λ law opened. law new.store }

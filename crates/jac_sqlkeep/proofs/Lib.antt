@@ -1,5 +1,6 @@
 pub mod Attached
 pub mod Based
+pub mod Opened
 pub mod Parts
 pub mod Read
 pub mod Reopens

@@ -50,10 +50,11 @@ based_keeper g kinds known h = record {
 abbrev pub NeverShut : {S : Type 0} → Ghosts S → Type 0
 NeverShut {S} g = (s : S) → IsTrue (g.view s).is_open
 
--- between two calls: one that told tells while its connection is open, no fault is forgotten, and
--- only a fault of the disk shuts the connection
+-- between two calls: one that told tells while its connection is open, which is never opened again,
+-- no fault is forgotten, and only a fault of the disk shuts the connection
 pub record DatabaseGoesOn {S : Type 0} (g : Ghosts S) (old new : Based) : Type 0 where
   pub tells : IsTrue old.tells → IsTrue new.is_open → IsTrue new.tells
+  pub opens : IsTrue new.is_open → IsTrue old.is_open
   pub clean : doubt old.is_clean ≤ doubt new.is_clean
   pub counts : old.faults ≤ new.faults
   pub closes : doubt new.is_clean ≡ 0 → IsTrue old.is_open

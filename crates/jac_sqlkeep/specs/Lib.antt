@@ -1,4 +1,5 @@
 pub mod Based
 pub mod Form
+pub mod GoesOn
 pub mod Kept
 pub mod Opening

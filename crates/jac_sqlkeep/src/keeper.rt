@@ -143,8 +143,13 @@ impl<O: Opener> SqlKeeper<O> {
 
 impl<O: Opener> Keeper for SqlKeeper<O> {
     ghost use Rattle.jac_sqlkeep.specs.Kept.{seen_kept};
+    ghost use Rattle.jac_sqlkeep.specs.GoesOn.{keeper_goes_on};
 
     ghost seen = { seen_kept };
+
+    /// A store that told tells as long as its connection is open, and only the disk's faults shut
+    /// that.
+    ghost goes = { keeper_goes_on O.Store.Store };
 
     fn number(&mut self) -> Result<u64, Stop>
         requires { IsTrue self.old.store.attached }

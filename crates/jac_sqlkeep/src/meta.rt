@@ -1,5 +1,5 @@
 //! The table `meta`: the number of the next accepted request, and the schema of what is stored.
-ghost use Rattle.std.specs.Prelude.{◌≡◌, ◌∷◌, [], pos, true, false, IfOk, IfErr, IfSome, OnOk, OnErr, IsErr};
+ghost use Rattle.std.specs.Prelude.{◌≡◌, ◌∷◌, [], pos, true, false, IfOk, IfErr, IfSome, IsTrue, OnOk, OnErr, IsErr};
 ghost use Rattle.std.specs.Option.{option_copied};
 ghost use Rattle.sqlite_value.specs.Order.{column};
 ghost use Rattle.sqlite_value.specs.declared.value.Value.TheVariants.{Int};
@@ -50,6 +50,8 @@ pub fn read_number<S: Alter>(conn: &mut Connection<S>) -> Result<u64, Error>
         → ReadsTold S.Store (λ s n. n ≡ s.number) models conn.old conn.new result }
     ensures left { LeavesStoredTables (state S.Store conn.old) (state S.Store conn.new) }
     ensures lasts { ConnectionLasts (state S.Store conn.old) (state S.Store conn.new) }
+    ensures opens { IsTrue (state S.Store conn.new).is_open
+        → IsTrue (state S.Store conn.old).is_open }
     ensures mode { conn.old.in_transaction ≡ false → conn.new.in_transaction ≡ false }
 {
     let row = conn.query_row(READ, &[]);

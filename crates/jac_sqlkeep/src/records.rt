@@ -1,5 +1,5 @@
 //! The table `rec`: the alternatives of each record, numbered from 0.
-ghost use Rattle.std.specs.Prelude.{◌≡◌, ◌<◌, ◌^◌, ◌∷◌, [], length, true, false, IfOk, IfErr, OnOk, Err};
+ghost use Rattle.std.specs.Prelude.{◌≡◌, ◌<◌, ◌^◌, ◌∷◌, [], length, true, false, IfOk, IfErr, IsTrue, OnOk, Err};
 ghost use Rattle.std.specs.List.{AllByRecursion};
 ghost use Rattle.std.specs.Option.{option_copied};
 ghost use Rattle.sqlite_value.specs.Order.{column};
@@ -54,6 +54,8 @@ pub fn read_model<S: Alter>(
         → ReadsTold S.Store (λ s rows. rows ≡ rows_of s.tables model) models conn.old conn.new
         result }
     ensures lasts { ConnectionLasts (state S.Store conn.old) (state S.Store conn.new) }
+    ensures opens { IsTrue (state S.Store conn.new).is_open
+        → IsTrue (state S.Store conn.old).is_open }
     ensures mode { conn.old.in_transaction ≡ false → conn.new.in_transaction ≡ false }
 {
     let found = conn.query_all(READ_MODEL, params![u32::from(model)]);
@@ -75,6 +77,8 @@ pub fn read_record<S: Alter>(
         → ReadsTold S.Store (λ s rows. rows ≡ alternatives id (rows_of s.tables (model_of_id id)))
         models conn.old conn.new result }
     ensures lasts { ConnectionLasts (state S.Store conn.old) (state S.Store conn.new) }
+    ensures opens { IsTrue (state S.Store conn.new).is_open
+        → IsTrue (state S.Store conn.old).is_open }
     ensures mode { conn.old.in_transaction ≡ false → conn.new.in_transaction ≡ false }
 {
     let jid = encode_id(id);

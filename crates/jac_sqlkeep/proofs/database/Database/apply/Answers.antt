@@ -4,6 +4,7 @@ use Rattle.jac_keep.specs.ChangedState.{changed_state}
 use Rattle.jac_sql_spec.proofs.Kept.{change_told}
 use Rattle.sqlite.specs.Held.{state}
 use Rattle.jac_sql_spec.proofs.Lasting.{lasts_of}
+use Rattle.jac_sql_spec.proofs.Stays.{clean_if_open}
 use Rattle.jac_sqlkeep.specs.Based.{Based}
 use Rattle.jac_sqlkeep.proofs.Based.{applies_based, sound_before, goes_by}
 use Rattle.jac_sqlkeep.proofs.database.Database.apply.Goals as goal
@@ -29,4 +30,5 @@ returns-clause-applies g c =
 pub returns-clause-goes : goal.returns-clause-goes
 returns-clause-goes g c =
     rw (← c.self.view_is)
-    (goes_by g.S.Store c.self.inside.shape.kinds c.self.inside.shape.kinds c.self.inside.conn c.write_change.new.conn c.self.inside.known (lasts_of (state g.S.Store c.self.inside.conn) (state g.S.Store c.write_change.new.conn) c.write_change.ensures.transacts.crash))
+    (goes_by g.S.Store c.self.inside.shape.kinds c.self.inside.shape.kinds c.self.inside.conn c.write_change.new.conn c.self.inside.known (lasts_of (state g.S.Store c.self.inside.conn) (state g.S.Store c.write_change.new.conn) c.write_change.ensures.transacts.crash)
+    (λ opened. (c.write_change.ensures.ends (clean_if_open (state g.S.Store c.write_change.new.conn) (g.met.S.Store.shut_if_dirty c.write_change.new.conn.store) opened) c.self.invariant.0).was_open opened))

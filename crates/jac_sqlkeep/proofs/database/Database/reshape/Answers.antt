@@ -4,6 +4,7 @@ use Rattle.jac_keep.specs.Reshaping.{widened_state}
 use Rattle.jac_keep.specs.Schema.{IsFit, shapes_by}
 use Rattle.sqlite.specs.Held.{state}
 use Rattle.jac_sql_spec.proofs.Lasting.{lasts_of}
+use Rattle.jac_sql_spec.proofs.Stays.{clean_if_open}
 use Rattle.jac_sqlkeep.specs.Based.{Based}
 use Rattle.jac_sqlkeep.proofs.Based.{reshaped_told, reshapes_ok, reshapes_err, goes_by}
 use Rattle.jac_sqlkeep.proofs.database.Database.reshape.Goals as goal
@@ -47,9 +48,11 @@ returns-in-Err-clause-reshapes g c =
 pub returns-in-Ok-clause-goes : goal.returns-in-Ok-clause-goes
 returns-in-Ok-clause-goes g c =
     rw (← c.self.view_is)
-    (goes_by g.S.Store c.self.inside.shape.kinds c.args.shape.kinds c.self.inside.conn c.write_change.new.conn c.self.inside.known (lasts_of (state g.S.Store c.self.inside.conn) (state g.S.Store c.write_change.new.conn) c.in-Ok.ensures.transacts.crash))
+    (goes_by g.S.Store c.self.inside.shape.kinds c.args.shape.kinds c.self.inside.conn c.write_change.new.conn c.self.inside.known (lasts_of (state g.S.Store c.self.inside.conn) (state g.S.Store c.write_change.new.conn) c.in-Ok.ensures.transacts.crash)
+    (λ opened. (c.in-Ok.ensures.ends (clean_if_open (state g.S.Store c.write_change.new.conn) (g.met.S.Store.shut_if_dirty c.write_change.new.conn.store) opened) c.self.invariant.0).was_open opened))
 
 pub returns-in-Err-clause-goes : goal.returns-in-Err-clause-goes
 returns-in-Err-clause-goes g c =
     rw (← c.self.view_is)
-    (goes_by g.S.Store c.self.inside.shape.kinds c.self.inside.shape.kinds c.self.inside.conn c.write_change.new.conn c.self.inside.known (lasts_of (state g.S.Store c.self.inside.conn) (state g.S.Store c.write_change.new.conn) c.in-Err.ensures.transacts.crash))
+    (goes_by g.S.Store c.self.inside.shape.kinds c.self.inside.shape.kinds c.self.inside.conn c.write_change.new.conn c.self.inside.known (lasts_of (state g.S.Store c.self.inside.conn) (state g.S.Store c.write_change.new.conn) c.in-Err.ensures.transacts.crash)
+    (λ opened. (c.in-Err.ensures.ends (clean_if_open (state g.S.Store c.write_change.new.conn) (g.met.S.Store.shut_if_dirty c.write_change.new.conn.store) opened) c.self.invariant.0).was_open opened))

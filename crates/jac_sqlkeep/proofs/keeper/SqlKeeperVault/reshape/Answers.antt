@@ -1,5 +1,5 @@
 use Rattle.std.proofs.Common.{◌≡◌, Some, rules}
-use Rattle.jac_sqlkeep.proofs.Based.{goes_on_same}
+use Rattle.jac_sqlkeep.specs.GoesOn.{keeper_same}
 use Rattle.jac_sqlkeep.proofs.Attached.{brought_fit, reshaped_now}
 use Rattle.jac_sqlkeep.proofs.keeper.SqlKeeperVault.reshape.Goals as goal
 
@@ -17,4 +17,4 @@ returns-in-Ok-reshape-clause-reshapes g c =
     c.args.change.now c.in-Ok.known.shape.kinds c.in-Ok.known.shape.nested c.self.view_is base c.in-Ok.ensures.schema c.in-Ok.ensures.shape c.in-Ok-reshape.ensures.reshapes
 
 pub returns-in_default-clause-goes : goal.returns-in_default-clause-goes
-returns-in_default-clause-goes g c = goes_on_same _ c.args.self.now.database
+returns-in_default-clause-goes g c = keeper_same _ c.args.self.now.database
