@@ -1,2 +1,3 @@
 pub mod HostSeen
 pub mod GoesOn
+pub mod Telling

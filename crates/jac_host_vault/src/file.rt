@@ -75,7 +75,7 @@ impl FileKeeper {
         self.keeper.faults()
     }
 
-    /// It tells nothing from now on.
+    /// From now on contracts say nothing of its contents.
     pub fn doubt(&mut self)
         ensures untold { (seen_kept self.new).tells ≡ false }
         ensures same_store { self.new.store ≡ self.old.store }

@@ -3,10 +3,12 @@
 #![tactic(auto)]
 
 mod file;
+mod laws;
 mod maker;
 mod told;
 mod vault;
 
 pub use file::FileKeeper;
+pub use laws::file_goes_on_telling;
 pub use maker::FileMaker;
 pub use vault::HostVault;

@@ -34,7 +34,7 @@ impl VaultMaker for FileMaker {
 
     ghost begins = { IsFileOf };
 
-    /// What a refused file lacks is told on standard error.
+    /// Reports on standard error why a file is refused.
     #[tactic(auto, using(crate::proofs::Attached::unopened_first))]
     fn attach(
         &mut self,

@@ -6,8 +6,8 @@ use jac_value::Txt;
 use sqlite::{Error, ErrorCode};
 use std::time::{Duration, Instant};
 
-/// Tells why the file of this name wasn't attached; what is told elsewhere, as another schema,
-/// isn't told here.
+/// Writes on standard error why the file of this name wasn't attached, unless another place reports
+/// it, as it does another schema.
 pub(crate) fn tell_refusal(rt: &HostRuntime, name: &Txt, keeper: &SqlKeeper<FileOpener>) {
     if let Some(fault) = keeper.opener().fault() {
         say(rt, name, words_of_fault(fault));

@@ -1,0 +1,33 @@
+-- that the program's store goes on telling
+use Rattle.std.specs.Prelude.{◌≡◌, ◌⊎◌, false, Option, Some, None, IsSomeAnd, IsTrue}
+use Rattle.jac_io.specs.Faults.{Rose}
+use Rattle.jac_sqlkeep.specs.Based.{Based}
+use Rattle.jac_sqlkeep.specs.Kept.{Kept}
+use Rattle.jac_reopen.specs.Reopened.{ReopenSeen}
+use Rattle.jac_host_vault.specs.HostSeen.{HostSeen, seen_host}
+
+-- a file was attached, its connection is open, and it tells
+abbrev pub IsOpenFile : HostSeen → Type 0
+IsOpenFile h = IsSomeAnd h.file (λ (f : ReopenSeen Kept). (f.again ≡ None)
+    × IsSomeAnd f.first (λ (k : Kept). IsSomeAnd k.database (λ (b : Based). IsTrue b.is_open
+    × IsTrue b.tells)))
+
+abbrev pub first_database : Option Kept → Option Based
+first_database None = None
+first_database (Some k) = k.database
+
+abbrev pub file_database : Option (ReopenSeen Kept) → Option Based
+file_database None = None
+file_database (Some f) = first_database f.first
+
+-- the disk of a database failed once more, or returned something else than what was written
+abbrev pub HasDiskFailed : Option Based → Option Based → Type 0
+HasDiskFailed None b = ⊥
+HasDiskFailed (Some a) None = ⊥
+HasDiskFailed (Some a) (Some b) = Rose a.faults b.faults ⊎ (b.is_clean ≡ false)
+
+-- the store tells, or it counted a fault, or its disk did
+abbrev pub TellsOrFailed : HostSeen → HostSeen → Type 0
+TellsOrFailed old new = IsTrue (seen_host new).tells
+    ⊎ (Rose (seen_host old).faults (seen_host new).faults
+    ⊎ HasDiskFailed (file_database old.file) (file_database new.file))

@@ -1,0 +1,12 @@
+ghost use Rattle.jac_host_vault.specs.HostSeen.{HostSeen};
+ghost use Rattle.jac_host_vault.specs.Telling.{IsOpenFile, TellsOrFailed};
+
+use crate::HostVault;
+use jac_keep::Keeper;
+
+/// A law: over any number of calls a file whose connection is open and that tells goes on telling,
+/// or a fault was counted, by the store or by its disk.
+pub fn file_goes_on_telling()
+    ensures { (old new : HostSeen) → ⟦<HostVault as Keeper>⟧.goes.holds old new → IsOpenFile old
+        → TellsOrFailed old new }
+{}
