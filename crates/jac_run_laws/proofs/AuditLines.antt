@@ -1,5 +1,5 @@
 -- What the bytes of an audit say of the log that they tell of.
-use Rattle.std.proofs.Common.{◌≡◌, ◌∙◌, ap, sym, refl, ◌⊎◌, inl, inr, arith, ℕ, zero, suc, ◌+◌, ◌<◌, ◌^◌, ◌/◌, ◌%◌, ◌==◌, ◌&&◌, ◌||◌, nat_lt, Bool, true, false, if◌then◌else◌, Option, Some, None, List, [], ◌∷◌, ◌++◌, length, append_assoc, codes, decimal}
+use Rattle.std.proofs.Common.{◌≡◌, ◌∙◌, ap, sym, refl, ◌⊎◌, inl, inr, arith, ℕ, zero, suc, ◌+◌, ◌<◌, ◌^◌, ◌/◌, ◌%◌, ◌==◌, ◌&&◌, ◌||◌, nat_lt, Bool, true, false, if◌then◌else◌, Option, Some, None, List, [], ◌∷◌, ◌++◌, length, append_assoc, append-nil, codes, decimal}
 use Rattle.std.proofs.lemmas.Bool.{cases_eq, and_from}
 use Rattle.std.proofs.lemmas.Bool.Decides.{nat_tests}
 use Rattle.std.proofs.lemmas.Fmt.{decimal_is_IsNumeral_wide}
@@ -12,7 +12,8 @@ use Rattle.jac_rows.specs.declared.state.State.{State}
 use Rattle.jac_replies.specs.Spelled.{viewer_text, labels_text, more_labels, shown_text, consulted_text, audit_text}
 use Rattle.jac_serve_events.specs.AnswerSpec.{LogEntry, is_failure}
 use Rattle.jac_serve_events.specs.Log.{viewer_of_subject, audit_line, audited_from, audit_lines}
-use Rattle.jac_noninterference.specs.TwoRuns.{LookSame, NoneFailed, HaveSameSubjects, labels_of, LookSameFor}
+use Rattle.jac_noninterference.specs.TwoRuns.{LookSame, NoneFailed, labels_of, LookSameFor}
+use Rattle.jac_run_laws.specs.Audited.{IsSmallViewer, HaveSmallNumbers, IsAuditedAlike, AreAuditedAlike}
 use Rattle.jac_run_laws.specs.Replayed.{BeginsLine, HasStatusWord, TellsNoFailure, TellsPage, AreSmall, HaveSmallLabels}
 
 -- ---- the bytes of a line
@@ -32,11 +33,11 @@ and_right : (a b : Bool) → (a && b) ≡ true → b ≡ true
 and_right true b h = h
 and_right false b h = absurd cc
 
-all_append : (test : ℕ → Bool) (xs ys : List ℕ) → list_all test xs ≡ true → list_all test ys ≡ true → list_all test (xs ++ ys) ≡ true
+pub all_append : (test : ℕ → Bool) (xs ys : List ℕ) → list_all test xs ≡ true → list_all test ys ≡ true → list_all test (xs ++ ys) ≡ true
 all_append test [] ys one two = two
 all_append test (x ∷ xs) ys one two = and_from (test x) (list_all test (xs ++ ys)) (and_left (test x) (list_all test xs) one) (all_append test xs ys (and_right (test x) (list_all test xs) one) two)
 
-all_through : (test other : ℕ → Bool) → ((c : ℕ) → test c ≡ true → other c ≡ true) → (xs : List ℕ) → list_all test xs ≡ true → list_all other xs ≡ true
+pub all_through : (test other : ℕ → Bool) → ((c : ℕ) → test c ≡ true → other c ≡ true) → (xs : List ℕ) → list_all test xs ≡ true → list_all other xs ≡ true
 all_through test other so [] h = refl
 all_through test other so (x ∷ xs) h =
     and_from (other x) (list_all other xs) (so x (and_left (test x) (list_all test xs) h)) (all_through test other so xs (and_right (test x) (list_all test xs) h))
@@ -55,7 +56,7 @@ onto_numerals (suc k) n acc h =
     onto_by k (n / 10) (digit_glyph false (n % 10) ∷ acc) (n / 10 == 0) (λ n m acc h. onto_numerals k n acc h)
     (and_from (is_numeral (digit_glyph false (n % 10))) (list_all is_numeral acc) (glyph_numeral (n % 10) (omega arith)) h)
 
-numerals : (n : ℕ) → list_all is_numeral (decimal n) ≡ true
+pub numerals : (n : ℕ) → list_all is_numeral (decimal n) ≡ true
 unfolding digits
 numerals n = onto_numerals 64 n [] refl
 
@@ -103,7 +104,7 @@ cut_at test stop other (c ∷ a) (d ∷ b) x y off off' on on' same =
     (λ i. head_same c d (a ++ stop ∷ x) (b ++ other ∷ y) same i ∷ rest.0 i, rest.1)
 
 -- the bytes before the first one that fails the test, and those after it
-cut : (test : ℕ → Bool) (stop : ℕ) (a b x y : List ℕ) → test stop ≡ false → list_all test a ≡ true → list_all test b ≡ true
+pub cut : (test : ℕ → Bool) (stop : ℕ) (a b x y : List ℕ) → test stop ≡ false → list_all test a ≡ true → list_all test b ≡ true
     → a ++ stop ∷ x ≡ b ++ stop ∷ y → (a ≡ b) × (x ≡ y)
 cut test stop a b x y off on on' same =
     let parts = cut_at test stop stop a b x y off off on on' same in (parts.0, tail_same stop stop x y parts.1)
@@ -116,7 +117,7 @@ label_fits n small = omega (arith, small)
 label_nonempty : (n : ℕ) → n < 2 ^ 128 → 0 < length (decimal n)
 label_nonempty n small = (decimal_is_IsNumeral_wide n (label_fits n small)).0.0
 
-label_injective : (m n : ℕ) → m < 2 ^ 128 → n < 2 ^ 128 → decimal m ≡ decimal n → m ≡ n
+pub label_injective : (m n : ℕ) → m < 2 ^ 128 → n < 2 ^ 128 → decimal m ≡ decimal n → m ≡ n
 label_injective m n small small' same =
     sym (decimal_is_IsNumeral_wide m (label_fits m small)).1 ∙ ap (digits_value 10) same ∙ (decimal_is_IsNumeral_wide n (label_fits n small')).1
 
@@ -253,10 +254,10 @@ behind_mark x y same =
     tail_same 32 32 x y
     (tail_same 102 102 (32 ∷ x) (32 ∷ y) (tail_same 111 111 (102 ∷ 32 ∷ x) (102 ∷ 32 ∷ y) same))
 
--- the same word, whatever was consulted, and the same lines after
+-- the same word and what was consulted, and the same lines after
 same_labels : (one two : Option (List ℕ)) (a b more others : List ℕ) → list_all is_inside a ≡ true → list_all is_inside b ≡ true
-    → a ++ behind_labels one more ≡ b ++ behind_labels two others → (a ≡ b) × (more ≡ others)
-same_labels None None a b more others on on' same = cut is_inside 10 a b more others refl on on' same
+    → a ++ behind_labels one more ≡ b ++ behind_labels two others → (a ≡ b) × (consulted_text one ≡ consulted_text two) × (more ≡ others)
+same_labels None None a b more others on on' same = let parts = cut is_inside 10 a b more others refl on on' same in (parts.0, refl, parts.1)
 same_labels None (Some ls) a b more others on on' same =
     let rest = 111 ∷ 102 ∷ 32 ∷ (labels_text ls ++ 10 ∷ others) in
     absurd (no_mark more rest (cut_at is_inside 10 32 a b more rest refl refl on on' same).1)
@@ -266,15 +267,20 @@ same_labels (Some ks) None a b more others on on' same =
 same_labels (Some ks) (Some ls) a b more others on on' same =
     let one = labels_text ks ++ 10 ∷ more in
     let two = labels_text ls ++ 10 ∷ others in
-    let parts = cut is_inside 32 a b (111 ∷ 102 ∷ 32 ∷ one) (111 ∷ 102 ∷ 32 ∷ two) refl on on' same in (
-      parts.0,
-      (cut is_inside 10 (labels_text ks) (labels_text ls) more others refl (shown_inside (Some ks)) (shown_inside (Some ls))
-          (behind_mark one two parts.1)).1,
-    )
+    let parts = cut is_inside 32 a b (111 ∷ 102 ∷ 32 ∷ one) (111 ∷ 102 ∷ 32 ∷ two) refl on on' same in
+    let last = cut is_inside 10 (labels_text ks) (labels_text ls) more others refl (shown_inside (Some ks)) (shown_inside (Some ls)) (behind_mark one two parts.1) in
+    (parts.0, ap (λ (l : List ℕ). codes " of " ++ l) last.0, last.1)
 
--- the same text and the same labels
+-- the same words, before the same bytes
+record IsSameLine (one two : LogEntry) (more others : List ℕ) : Type 0 where
+  pub status : decimal one.answer.status ≡ decimal two.answer.status
+  pub viewer : viewer_text (viewer_of_subject one.subject) ≡ viewer_text (viewer_of_subject two.subject)
+  pub shown : shown_text one.answer.shown ≡ shown_text two.answer.shown
+  pub consulted : consulted_text one.answer.consulted ≡ consulted_text two.answer.consulted
+  pub rest : more ≡ others
+
 same_line : (k : ℕ) (one two : LogEntry) (more others : List ℕ) → audit_line k one ++ more ≡ audit_line k two ++ others
-    → (shown_text one.answer.shown ≡ shown_text two.answer.shown) × (more ≡ others)
+    → IsSameLine one two more others
 same_line k one two more others same =
     let viewer = viewer_text (viewer_of_subject one.subject) in
     let viewer' = viewer_text (viewer_of_subject two.subject) in
@@ -285,20 +291,71 @@ same_line k one two more others same =
     let status = cut is_inside 32 (decimal one.answer.status) (decimal two.answer.status) (viewer ++ 32 ∷ last) (viewer' ++ 32 ∷ last')
     refl (decimal_inside one.answer.status) (decimal_inside two.answer.status) numbered.1 in
     let looking = cut is_inside 32 viewer viewer' last last' refl (viewer_inside (viewer_of_subject one.subject)) (viewer_inside (viewer_of_subject two.subject)) status.1 in
-    same_labels one.answer.consulted two.answer.consulted (shown_text one.answer.shown) (shown_text two.answer.shown) more others
-    (shown_inside one.answer.shown) (shown_inside two.answer.shown) looking.1
+    let labels = same_labels one.answer.consulted two.answer.consulted (shown_text one.answer.shown) (shown_text two.answer.shown) more others
+    (shown_inside one.answer.shown) (shown_inside two.answer.shown) looking.1 in
+    record { status = status.0; viewer = looking.0; shown = labels.0; consulted = labels.1; rest = labels.2 }
 
--- audits that are the same bytes tell the same labels of logs that were asked the same
-pub labels_by_text : (early late : Bool) (k : ℕ) (log others : List LogEntry) → early ≡ false → late ≡ false → HaveSameSubjects early late log others
-    → audited_from k log ≡ audited_from k others → HaveSmallLabels log → HaveSmallLabels others → labels_of log ≡ labels_of others
-labels_by_text early late k [] [] whole whole' asks same small small' = refl
-labels_by_text early late k [] (two ∷ others) whole whole' asks same small small' = let wrong : true ≡ false = sym asks ∙ whole in absurd cc
-labels_by_text early late k (one ∷ log) [] whole whole' asks same small small' = let wrong : true ≡ false = sym asks ∙ whole' in absurd cc
-labels_by_text early late k (one ∷ log) (two ∷ others) whole whole' asks same small small' =
-    let parts = same_line k one two (audited_from (k + 1) log) (audited_from (k + 1) others) same in
-    let first = shown_by_text one.answer.shown two.answer.shown small.0 small'.0 parts.0 in
-    let rest = labels_by_text early late (k + 1) log others whole whole' asks.1 parts.1 small.1 small'.1 in
+no_end : (a x : List ℕ) (c : ℕ) → a ++ c ∷ x ≡ [] → ⊥
+no_end [] x c same = cc
+no_end (d ∷ a) x c same = cc
+
+-- an audit that has a line isn't empty
+no_line : (k : ℕ) (entry : LogEntry) (more : List ℕ) → audit_line k entry ++ more ≡ [] → ⊥
+no_line k entry more same =
+    no_end (decimal k)
+    (decimal entry.answer.status ++ 32 ∷ (viewer_text (viewer_of_subject entry.subject)
+    ++ 32 ∷ (shown_text entry.answer.shown ++ behind_labels entry.answer.consulted more)))
+    32 (sym (line_split k entry more) ∙ same)
+
+-- audits that are the same bytes tell the same labels
+pub labels_by_text : (k : ℕ) (log others : List LogEntry) → audited_from k log ≡ audited_from k others → HaveSmallLabels log → HaveSmallLabels others
+    → labels_of log ≡ labels_of others
+labels_by_text k [] [] same small small' = refl
+labels_by_text k [] (two ∷ others) same small small' = absurd (no_line k two (audited_from (k + 1) others) (sym same))
+labels_by_text k (one ∷ log) [] same small small' = absurd (no_line k one (audited_from (k + 1) log) same)
+labels_by_text k (one ∷ log) (two ∷ others) same small small' =
+    let line = same_line k one two (audited_from (k + 1) log) (audited_from (k + 1) others) same in
+    let first = shown_by_text one.answer.shown two.answer.shown small.0 small'.0 line.shown in
+    let rest = labels_by_text (k + 1) log others line.rest small.1 small'.1 in
     λ i. first i ∷ rest i
+
+-- ---- all that a line tells
+
+no_viewer : (id : ℕ) → id < 2 ^ 128 → viewer_text None ≡ viewer_text (Some id) → ⊥
+no_viewer id small same = no_number id 45 [] [] small refl (same ∙ sym (append-nil (decimal id)))
+
+viewer_by_text : (one two : Option ℕ) → IsSmallViewer one → IsSmallViewer two → viewer_text one ≡ viewer_text two → one ≡ two
+viewer_by_text None None small small' same = refl
+viewer_by_text None (Some id) small small' same = absurd (no_viewer id small' same)
+viewer_by_text (Some id) None small small' same = absurd (no_viewer id small (sym same))
+viewer_by_text (Some id) (Some other) small small' same = ap (λ (n : ℕ). Some n) (label_injective id other small small' same)
+
+no_mark_first : (ks : List ℕ) → consulted_text None ≡ consulted_text (Some ks) → ⊥
+no_mark_first ks same = cc
+
+consulted_by_text : (one two : Option (List ℕ)) → AreSmall one → AreSmall two → consulted_text one ≡ consulted_text two → one ≡ two
+consulted_by_text None None small small' same = refl
+consulted_by_text None (Some ls) small small' same = absurd (no_mark_first ls same)
+consulted_by_text (Some ks) None small small' same = absurd (no_mark_first ks (sym same))
+consulted_by_text (Some ks) (Some ls) small small' same =
+    shown_by_text (Some ks) (Some ls) small small' (append_cancel_left (codes " of ") (labels_text ks) (labels_text ls) same)
+
+-- audits that are the same bytes tell the same, line by line
+pub entries_by_text : (k : ℕ) (log others : List LogEntry) → HaveSmallNumbers log → HaveSmallNumbers others → audited_from k log ≡ audited_from k others
+    → AreAuditedAlike log others
+entries_by_text k [] [] small small' same = tt
+entries_by_text k [] (two ∷ others) small small' same = absurd (no_line k two (audited_from (k + 1) others) (sym same))
+entries_by_text k (one ∷ log) [] small small' same = absurd (no_line k one (audited_from (k + 1) log) same)
+entries_by_text k (one ∷ log) (two ∷ others) small small' same =
+    let line = same_line k one two (audited_from (k + 1) log) (audited_from (k + 1) others) same in (
+      record {
+        status = label_injective one.answer.status two.answer.status small.0.status small'.0.status line.status;
+        viewer = viewer_by_text (viewer_of_subject one.subject) (viewer_of_subject two.subject) small.0.viewer small'.0.viewer line.viewer;
+        shown = shown_by_text one.answer.shown two.answer.shown small.0.shown small'.0.shown line.shown;
+        consulted = consulted_by_text one.answer.consulted two.answer.consulted small.0.consulted small'.0.consulted line.consulted;
+      },
+      entries_by_text (k + 1) log others small.1 small'.1 line.rest,
+    )
 
 -- ---- what a line tells
 

@@ -1,6 +1,7 @@
 -- What a serve answered, from the statement of the top call, and two of them.
 use Rattle.std.proofs.Common.{◌≡◌, ◌∙◌, ap, sym, subst, refl, inl, inr, ℕ, Bool, Result, Ok, Err, Option, Some, None, List, ◌++◌, append-nil, map}
 use Rattle.jac_io.specs.Seen.{SinkSeen}
+use Rattle.jac_world.specs.World.{shown_by}
 use Rattle.jac_lang.specs.Syntax.{Application}
 use Rattle.jac_rows.specs.Project.{project_at}
 use Rattle.jac_rows.specs.declared.state.State.{State}
@@ -23,11 +24,12 @@ use Rattle.jac_app.specs.Held.{held_of}
 use Rattle.jac_app.specs.Server.{IsServedAt, IsServer, EndsServer}
 use Rattle.jac_app.specs.Run.{Ends, Runs}
 use Rattle.jac_noninterference.specs.TwoRuns.{LookSame, NoneFailed}
-use Rattle.jac_run_laws.specs.Replayed.{TopRun, IsTopRun, IsToldToEnd, HoldSessions}
-use Rattle.jac_run_laws.specs.Doors.{HoldServing, HasServed, AreTakenAlike, AreLikeWhereShown}
+use Rattle.jac_run_laws.specs.Replayed.{TopRun, IsTopRun, IsToldToEnd, HoldSessions, TellsNoFailure, TellsPage, HaveSmallLabels}
+use Rattle.jac_run_laws.specs.Doors.{HoldServing, HasServed, AreTakenAlike, HoldSameMore}
 use Rattle.jac_run_laws.proofs.Replays.{not_done, no_usage, no_memory, closes_not_done, same_command, sessions_held}
 use Rattle.jac_run_laws.proofs.SameReplays.{AreSameFiles, same_bytes, one_sessions}
-use Rattle.jac_run_laws.proofs.DoorLinks.{links_agree}
+use Rattle.jac_run_laws.proofs.AuditLines.{none_failed, looks_same, labels_by_text}
+use Rattle.jac_run_laws.proofs.DoorLinks.{AreLinksAlike, links_agree, links_hold}
 
 all_returned : {L : Type 0} (visits : List (LinkVisit L)) (last : Option (LinkVisit L)) → last ≡ None → visits ++ open_visits last ≡ visits
 all_returned visits last none = ap (λ o. visits ++ open_visits o) none ∙ append-nil visits
@@ -115,30 +117,50 @@ same_sessions file other serving app app' sessions sessions' same held held' =
     one_sessions file serving.sessions sessions sessions' held.sessions_held
     (subst (λ (f : List ℕ → Option (List ℕ)). HoldSessions f serving.sessions sessions') (sym path) held'.sessions_held)
 
-pub serves_agree : {L M : Type 0} (serving : ServeArgs) (one : TopRun L) (two : TopRun M) (first : HasServed serving one) (second : HasServed serving two)
-    → IsToldToEnd one → IsToldToEnd two → AreSameFiles one.seen.files.before.file two.seen.files.before.file
-    → AreTakenAlike one.line two.line first.visits second.visits → NoneFailed first.log → NoneFailed second.log
-    → AreLikeWhereShown first.start second.start first.log second.log
-serves_agree serving one two first second told told' files taken none none' =
-    let file = one.seen.files.before.file in
-    let other = two.seen.files.before.file in
-    let app = one_application file other serving first.app second.app first.sessions second.sessions files first.held second.held in
-    let sessions = same_sessions file other serving first.app second.app first.sessions second.sessions files first.held second.held in
-    let s = first.door_served in
-    let u = second.door_served in
-    let opened : RunSeen = run_seen_of s.opened one.splits.before in
-    let opened' : RunSeen = run_seen_of u.opened two.splits.before in
-    let left : RunSeen = run_seen_of one.seen.keeper.after one.splits.after in
-    let left' : RunSeen = run_seen_of two.seen.keeper.after two.splits.after in
-    let visited =
-    subst
-    (λ (a : Application). AreVisited two.line (answer_spec_of serving.lazy a second.sessions) 1 0 opened' second.visits second.log second.audit left')
-    (sym app) u.visited in
-    let there =
-    subst
-    (λ (z : List Session). AreVisited two.line (answer_spec_of serving.lazy first.app z) 1 0 opened' second.visits second.log second.audit left')
-    (sym sessions) visited in
-    let still : (w : ℕ → Bool) → LookSame w first.start second.start → LookSame w s.opened.state u.opened.state =
-    λ w look. sym (ap (λ (x : State). project_at w x) s.starts) ∙ look ∙ ap (λ (x : State). project_at w x) u.starts in
-    links_agree one.line two.line serving.lazy first.app first.sessions first.start second.start 1 0 0 opened opened' left left'
-    first.visits second.visits first.log second.log first.audit second.audit s.visited there told.keeper told'.keeper taken none none' still
+module _ {L M : Type 0} (serving : ServeArgs) (one : TopRun L) (two : TopRun M) (first : HasServed serving one) (second : HasServed serving two) (files : AreSameFiles one.seen.files.before.file two.seen.files.before.file) where
+  abbrev opened : RunSeen
+  opened = run_seen_of first.door_served.opened one.splits.before
+
+  abbrev opened' : RunSeen
+  opened' = run_seen_of second.door_served.opened two.splits.before
+
+  abbrev left : RunSeen
+  left = run_seen_of one.seen.keeper.after one.splits.after
+
+  abbrev left' : RunSeen
+  left' = run_seen_of two.seen.keeper.after two.splits.after
+
+  -- the second one served the application and the sessions of the first
+  there : AreVisited two.line (answer_spec_of serving.lazy first.app first.sessions) 1 0 opened' second.visits second.log second.audit left'
+  there =
+      let app = one_application one.seen.files.before.file two.seen.files.before.file serving first.app second.app first.sessions second.sessions files first.held second.held in
+      let sessions = same_sessions one.seen.files.before.file two.seen.files.before.file serving first.app second.app first.sessions second.sessions files first.held second.held in
+      let visited =
+      subst
+      (λ (a : Application). AreVisited two.line (answer_spec_of serving.lazy a second.sessions) 1 0 opened' second.visits second.log second.audit left')
+      (sym app) second.door_served.visited in
+      subst
+      (λ (z : List Session). AreVisited two.line (answer_spec_of serving.lazy first.app z) 1 0 opened' second.visits second.log second.audit left')
+      (sym sessions) visited
+
+  still : (w : ℕ → Bool) → LookSame w first.start second.start → LookSame w first.door_served.opened.state second.door_served.opened.state
+  still w look = sym (ap (λ (x : State). project_at w x) first.door_served.starts) ∙ look ∙ ap (λ (x : State). project_at w x) second.door_served.starts
+
+  pub serves_alike : IsToldToEnd one → IsToldToEnd two → AreTakenAlike one.line two.line first.visits second.visits → NoneFailed first.log → NoneFailed second.log
+      → AreLinksAlike first.start second.start left left' first.log second.log
+  serves_alike told told' taken none none' =
+      links_agree one.line two.line serving.lazy first.app first.sessions first.start second.start 1 0 0 opened opened' left left'
+      first.visits second.visits first.log second.log first.audit second.audit first.door_served.visited there told.keeper told'.keeper taken none none' still
+
+  pub serve_bytes_agree : IsToldToEnd one → IsToldToEnd two → AreTakenAlike one.line two.line first.visits second.visits → first.audit ≡ second.audit → TellsNoFailure first.audit
+      → ((labels : List ℕ) → TellsPage first.audit labels → LookSame (shown_by labels) first.start second.start)
+      → HaveSmallLabels first.log → HaveSmallLabels second.log → HoldSameMore one.line two.line first.visits second.visits
+  serve_bytes_agree told told' taken same quiet look small small' =
+      let lines = first.door_served.audit_is in
+      let lines' = second.door_served.audit_is in
+      let none = none_failed first.log (subst TellsNoFailure lines quiet) in
+      let none' = none_failed second.log (subst TellsNoFailure (same ∙ lines') quiet) in
+      let labels = labels_by_text 1 first.log second.log (sym lines ∙ same ∙ lines') small small' in
+      let looks = looks_same first.start second.start first.log (λ labels tells. look labels (subst (λ (a : List ℕ). TellsPage a labels) (sym lines) tells)) in
+      links_hold one.line two.line serving.lazy first.app first.sessions first.start second.start 1 0 0 opened opened' left left'
+      first.visits second.visits first.log second.log first.audit second.audit first.door_served.visited there told.keeper told'.keeper taken none none' labels looks still

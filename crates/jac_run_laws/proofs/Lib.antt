@@ -1,6 +1,8 @@
 pub mod Replays
 pub mod SameReplays
 pub mod AuditLines
+pub mod TextLines
+pub mod SameEntries
 pub mod OneText
 pub mod SameBytes
 pub mod OneLink

@@ -15,7 +15,7 @@ use Rattle.jac_noninterference.specs.TwoRuns.{OneRun, LookSame, seen_entry, seen
 use Rattle.jac_run_laws.specs.Replayed.{TopRun, IsReplayed, TellsNoFailure, TellsPage, HaveSmallLabels}
 use Rattle.jac_run_laws.proofs.AuditLines.{none_failed, looks_same, labels_by_text}
 use Rattle.jac_run_laws.proofs.OneText.{one_text, brings_seen}
-use Rattle.jac_noninterference.proofs.SideBySide.{subjects_agree, views_agree}
+use Rattle.jac_noninterference.proofs.SideBySide.{views_agree}
 
 -- somebody who sees each entry
 abbrev pub each_entry : Source → LogSubject → Bool
@@ -42,8 +42,7 @@ bytes_agree replay one two app sessions events first second out out' audit is is
     let x = answer_spec_of replay.lazy app sessions in
     let none = none_failed first.log (subst TellsNoFailure is.audit_is quiet) in
     let none' = none_failed second.log (subst TellsNoFailure is'.audit_is quiet) in
-    let asked = subjects_agree app sessions events first second is.served is'.served none none' in
-    let labels = labels_by_text first.early second.early 1 first.log second.log is.whole is'.whole asked (sym is.audit_is ∙ is'.audit_is) small small' in
+    let labels = labels_by_text 1 first.log second.log (sym is.audit_is ∙ is'.audit_is) small small' in
     let looks = looks_same first.start second.start first.log (λ labels tells. look labels (subst (λ (a : List ℕ). TellsPage a labels) (sym is.audit_is) tells)) in
     let seen = views_agree app sessions events first second is.served is'.served each_entry (record {
       whole = is.whole;

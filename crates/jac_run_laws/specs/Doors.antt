@@ -81,6 +81,20 @@ AreTakenAlike line other (one ∷ visits) (two ∷ more) =
     × ((line one.came).left ≡ (other two.came).left)
     × AreTakenAlike line other visits more
 
+-- the link took these bytes while it was served
+abbrev pub HoldsMore : {L : Type 0} → (L → LinkSeen) → LinkVisit L → List ℕ → Type 0
+HoldsMore line visit bytes = (line visit.gone).held ≡ (line visit.came).held ++ bytes
+
+-- link by link, both took the same bytes
+abbrev pub HoldSameMore : {L M : Type 0} → (L → LinkSeen) → (M → LinkSeen) → List (LinkVisit L)
+    → List (LinkVisit M) → Type 0
+HoldSameMore line other [] [] = ⊤
+HoldSameMore line other [] (two ∷ more) = ⊥
+HoldSameMore line other (one ∷ visits) [] = ⊥
+HoldSameMore line other (one ∷ visits) (two ∷ more) =
+    ((bytes : List ℕ) × HoldsMore line one bytes × HoldsMore other two bytes)
+    × HoldSameMore line other visits more
+
 -- the same was asked; what is seen of replies without a page is the same, and so it is of those
 -- whose pages were made under the same labels, where these show the same of both starts
 pub record IsLikeWhereShown (start other : State) (one two : LogEntry) : Type 0 where

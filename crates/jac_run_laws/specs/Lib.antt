@@ -1,2 +1,3 @@
 pub mod Replayed
 pub mod Doors
+pub mod Audited
