@@ -3,3 +3,4 @@ pub mod RightAnswers
 pub mod Faithful
 pub mod SamePlace
 pub mod Visits
+pub mod EachReply

@@ -126,7 +126,7 @@ page_found lazy (founds.View n pairs) app before ask answer labels is on =
       λ i w. left_by (founds.View n pairs) w app ask (sym on i) (before w),
     )
 
-refusal_found : (lazy : Bool) (f : Found) (app : Application) (before : Worlds) (ask : Ask) (answer : Answer) → IsAnswerBy lazy f app before ask answer
+pub refusal_found : (lazy : Bool) (f : Found) (app : Application) (before : Worlds) (ask : Ask) (answer : Answer) → IsAnswerBy lazy f app before ask answer
     → answer.shown ≡ None → IsRefusedAsFound f before answer.status
 refusal_found lazy founds.NoRoute app before ask answer is none = ap (λ (a : Answer). a.status) is
 refusal_found lazy (founds.WrongMethod allow) app before ask answer is none = ap (λ (a : Answer). a.status) is
@@ -187,12 +187,12 @@ pub after_last : (w : ℕ → Bool) (app : Application) (before : List LogEntry)
 after_last w app [] entry t = refl
 after_last w app (e ∷ before) entry t = after_last w app before entry (after_entry w app e t)
 
-entry_in : (lazy : Bool) (app : Application) (start : State) (log before : List LogEntry) (entry : LogEntry) → AreAnswered lazy app (worlds_of start) log
+pub entry_in : (lazy : Bool) (app : Application) (start : State) (log before : List LogEntry) (entry : LogEntry) → AreAnswered lazy app (worlds_of start) log
     → (has : HasEntry log before entry) → IsAnswer lazy app (world_behind app start before) entry.subject entry.answer
 entry_in lazy app start log before entry answered has =
     answered_behind lazy app (worlds_of start) before entry has.later (subst (λ (l : List LogEntry). AreAnswered lazy app (worlds_of start) l) has.parts answered)
 
-page_in : (lazy : Bool) (app : Application) (start : State) (before : List LogEntry) (entry : LogEntry) (labels : List ℕ)
+pub page_in : (lazy : Bool) (app : Application) (start : State) (before : List LogEntry) (entry : LogEntry) (labels : List ℕ)
     → IsAnswer lazy app (world_behind app start before) entry.subject entry.answer → entry.answer.shown ≡ Some labels
     → IsRightPage lazy app (world_behind app start before) (world_behind app start (before ++ entry ∷ [])) entry labels
 page_in lazy app start before entry labels is on =

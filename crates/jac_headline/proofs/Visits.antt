@@ -1,5 +1,5 @@
 -- Connections that were served one after another have one log that is faithful.
-use Rattle.std.proofs.Common.{◌≡◌, ◌∙◌, ap, sym, subst, refl, ℕ, ◌+◌, Bool, IsTrue, Some, List, [], ◌∷◌, ◌++◌, length}
+use Rattle.std.proofs.Common.{◌≡◌, ◌∙◌, ap, sym, subst, refl, arith, ℕ, ◌+◌, Bool, IsTrue, Some, List, [], ◌∷◌, ◌++◌, length}
 use Rattle.jac_io.specs.Linked.{LinkSeen}
 use Rattle.jac_lang.specs.Syntax.{Application}
 use Rattle.jac_rows.specs.Project.{project_at}
@@ -9,7 +9,7 @@ use Rattle.jac_plain.specs.Requests.{Worlds}
 use Rattle.jac_plain.specs.Shown.{worlds_of}
 use Rattle.jac_route.specs.declared.sessions.Session.{Session}
 use Rattle.jac_serve_events.specs.AnswerSpec.{LogEntry}
-use Rattle.jac_serve_events.specs.RunSeen.{RunSeen, run_seen_of}
+use Rattle.jac_serve_events.specs.RunSeen.{Grew, RunSeen, run_seen_of}
 use Rattle.jac_serve_events.specs.Log.{audit_lines}
 use Rattle.jac_serve_events.specs.Outside.{span}
 use Rattle.jac_connections.specs.Door.{LinkVisit, AreVisited}
@@ -17,7 +17,7 @@ use Rattle.jac_cli.specs.declared.words.Command.TheVariants as commands
 use Rattle.jac_cli.specs.declared.words.ServeArgs.{ServeArgs}
 use Rattle.jac_cli.specs.Words.{command_of}
 use Rattle.jac_dispatch.specs.Answered.{answer_spec_of, AreEntries}
-use Rattle.jac_dispatch.specs.Log.{AreAnswered, after_entry, after_log}
+use Rattle.jac_dispatch.specs.Log.{AreAnswered, after_entry, after_log, faults_in}
 use Rattle.jac_run_laws.specs.Doors.{HasServed, IsDoorServed}
 use Rattle.jac_run_laws.specs.Replayed.{TopRun, IsTopRun, IsToldToEnd}
 use Rattle.jac_run_laws.proofs.DoorRuns.{has_served}
@@ -35,19 +35,27 @@ after_append : (w : ℕ → Bool) (app : Application) (log others : List LogEntr
 after_append w app [] others t = refl
 after_append w app (entry ∷ log) others t = after_append w app log others (after_entry w app entry t)
 
+faults_append : (log others : List LogEntry) → faults_in (log ++ others) ≡ faults_in log + faults_in others
+faults_append [] others = omega arith
+faults_append (entry ∷ log) others = omega (arith, faults_append log others)
+
+grew_then : (before between after one two : ℕ) → Grew before one between → Grew between two after → Grew before (one + two) after
+grew_then before between after one two first second = omega (arith, first, second)
+
 -- what was answered from one state to another, where the other is told
 pub record AreAnsweredOn (lazy : Bool) (app : Application) (before after : RunSeen) (log : List LogEntry) : Type 0 where
   pub told : IsTrue before.keeper.tells
   pub answered : AreAnswered lazy app (worlds_of before.keeper.state) log
   pub worlds : (w : ℕ → Bool) → project_at w after.keeper.state ≡ after_log w app log (project_at w before.keeper.state)
+  pub faults : Grew before.keeper.faults (faults_in log) after.keeper.faults
 
 entries_on : (lazy : Bool) (app : Application) (before after : RunSeen) (log : List LogEntry) → AreEntries lazy app (span before after) log
     → IsTrue after.keeper.tells → AreAnsweredOn lazy app before after log
 entries_on lazy app before after log entries told =
-    record { told = entries.told told; answered = entries.answered told; worlds = entries.worlds told }
+    record { told = entries.told told; answered = entries.answered told; worlds = entries.worlds told; faults = entries.faults }
 
 none_on : (lazy : Bool) (app : Application) (before : RunSeen) → IsTrue before.keeper.tells → AreAnsweredOn lazy app before before []
-none_on lazy app before told = record { told = told; answered = tt; worlds = λ w. refl }
+none_on lazy app before told = record { told = told; answered = tt; worlds = λ w. refl; faults = omega arith }
 
 joined_on : (lazy : Bool) (app : Application) (before between after : RunSeen) (log others : List LogEntry) → AreAnsweredOn lazy app before between log
     → AreAnsweredOn lazy app between after others → AreAnsweredOn lazy app before after (log ++ others)
@@ -61,9 +69,12 @@ joined_on lazy app before between after log others one two =
       worlds = λ w.
           two.worlds w ∙ ap (λ (t : PlainState). after_log w app others t) (one.worlds w)
           ∙ after_append w app log others (project_at w before.keeper.state);
+      faults =
+          subst (λ (n : ℕ). Grew before.keeper.faults n after.keeper.faults) (sym (faults_append log others))
+          (grew_then before.keeper.faults between.keeper.faults after.keeper.faults (faults_in log) (faults_in others) one.faults two.faults);
     }
 
-visits_on : {L : Type 0} (line : L → LinkSeen) (lazy : Bool) (app : Application) (sessions : List Session) (c first : ℕ) (before after : RunSeen)
+pub visits_on : {L : Type 0} (line : L → LinkSeen) (lazy : Bool) (app : Application) (sessions : List Session) (c first : ℕ) (before after : RunSeen)
     (visits : List (LinkVisit L)) (log : List LogEntry) (audit : List ℕ) → AreVisited line (answer_spec_of lazy app sessions) c first before visits log audit after
     → IsTrue after.keeper.tells → AreAnsweredOn lazy app before after log
 visits_on line lazy app sessions c first before after [] log audit (none, silent, same) told =

@@ -3,13 +3,16 @@ ghost use Rattle.jac_lang.specs.Syntax.{Application};
 ghost use Rattle.jac_rows.specs.Good.{IsSound};
 ghost use Rattle.jac_rows.specs.declared.state.State.{State};
 ghost use Rattle.jac_serve_events.specs.AnswerSpec.{LogEntry};
+ghost use Rattle.jac_serve_events.specs.Outside.{span};
 ghost use Rattle.jac_cli.specs.Words.{command_of};
 ghost use Rattle.jac_cli.specs.declared.words.Command.TheVariants as commands;
 ghost use Rattle.jac_cli.specs.declared.words.Replay.{Replay};
 ghost use Rattle.jac_write.specs.Writes.{PlainTables, Writes, numbered_tables};
 ghost use Rattle.jac_cli.specs.declared.words.ServeArgs.{ServeArgs};
+ghost use Rattle.jac_run_laws.specs.Doors.{HasServed};
 ghost use Rattle.jac_run_laws.specs.Replayed.{TopRun, IsTopRun, IsToldToEnd as HasEnded};
 ghost use Rattle.jac_headline.specs.Headline.{Given, HoldGiven, IsReplayTold, IsFaithful, HasReplayedFaithfully, HasServedFaithfully};
+ghost use Rattle.jac_headline.specs.Replies.{AreRightReplies};
 ghost use Rattle.jac_headline.specs.Companions.{ShowsNothingForbidden, HideAlike, LeavesOthers};
 
 /// The promise, of a replay that ended with status 0, or with 3 at a refused line of its events,
@@ -39,6 +42,23 @@ pub fn headline_of_serves<L>()
     ensures { (words : List (List ℕ)) (serving : ServeArgs) (top : TopRun L) →
         IsTopRun words top → command_of words ≡ Some (commands.Serve serving) → HasEnded top →
         HasServedFaithfully serving top }
+{}
+
+/// Each reply of a serve is one of four. It is the right page under the labels that its audit line
+/// names, in the world before its request; or the refusal of its cause: no view has the path (404)
+/// or the method (405), numbers are used up (507), or its bytes are no request (400, 413, 415, 431
+/// or 501); or it has status 500 and no page, since memory ran out; or it has status 503 and no
+/// page, and then the store's count of faults rose while connections were served. There is no
+/// fifth.
+///
+/// The log is that of `serve_answers` in `jac_run_laws`, of a serve that ended with status 0 and
+/// whose files and store could be read to the end. So where no count of faults rose, each reply is
+/// a right page, the refusal of its cause, or a 500.
+pub fn each_reply_is_right<L>()
+    ensures { (serving : ServeArgs) (top : TopRun L) (run : HasServed serving top) →
+        HasEnded top →
+        AreRightReplies serving.lazy run.app (span run.door_served.opened top.seen.keeper.after)
+        run.log }
 {}
 
 /// No page shows what a policy forbids. Each label of a page's audit line belongs to a record that
