@@ -9,6 +9,7 @@ use Rattle.jac_cli.specs.declared.words.ServeArgs.{ServeArgs}
 use Rattle.jac_command_base.specs.Files.{Sight}
 use Rattle.jac_command_base.specs.declared.status.Status.{Status}
 use Rattle.jac_run_laws.specs.Replayed.{TopRun, IsTopRun, IsToldToEnd}
+use Rattle.jac_main.specs.Start.{BeginsEmpty}
 use Rattle.jac_headline.specs.Headline.{Given, HoldGiven, IsReplayTold, HasReplayedFaithfully, HasServedFaithfully}
 
 abbrev pub top_run : {L : Type 0} → (L → LinkSeen) → Sight → Span (DoorSeen L) → Span ℕ → Status
@@ -16,8 +17,10 @@ abbrev pub top_run : {L : Type 0} → (L → LinkSeen) → Sight → Span (DoorS
 top_run line seen door splits status =
     record { line = line; seen = seen; door = door; splits = splits; status = status }
 
--- the contract of the top call holds; a replay or a serve that is told to its end is faithful
+-- its store begins empty; the contract of the top call holds; a replay or a serve that is told to
+-- its end is faithful
 pub record KeepsPromise {L : Type 0} (words : List (List ℕ)) (top : TopRun L) : Type 0 where
+  pub begins : BeginsEmpty words top.seen.keeper.before
   pub ran : IsTopRun words top
   pub replays : (replay : Replay) (given : Given)
       → command_of words ≡ Some (commands.Replay replay)

@@ -8,6 +8,7 @@ ghost use Rattle.jac_host.specs.Links.{door_seen};
 ghost use Rattle.jac_serve_events.specs.Outside.{span};
 ghost use Rattle.jac_command_base.specs.Files.{sight};
 ghost use Rattle.jac_main.specs.Promise.{KeepsPromise, top_run};
+ghost use Rattle.jac_main.specs.Start.{BeginsEmpty, asks_for_file};
 
 use jac_app::{Status, run};
 use jac_host::{HostAudit, HostDoor, HostFiles, HostLink, Outside, Stdout, Unknown};
@@ -99,6 +100,7 @@ fn run_host<O: Outside, L: Ledger, M: Ledger>(
     requires door { ⟦<HostDoor<'static, O> as Door>⟧.seen host.old.door
         ≡ door_seen O.inputs [] [] 0 }
     requires first { (⟦<HostVault as Keeper>⟧.seen vault.old).store.called ≡ false }
+    requires begins { BeginsEmpty words.now (⟦<HostVault as Keeper>⟧.seen vault.old) }
     ensures { KeepsPromise words.now (top_run ⟦<HostLink<O> as Link>⟧.seen
         (sight (files_seen O.file [] 0) (⟦<HostFiles<'static, O> as Files>⟧.seen host.new.files)
         (sink_seen [] 0) (⟦<Stdout<'static> as Sink>⟧.seen host.new.out)
@@ -123,7 +125,8 @@ fn run_host<O: Outside, L: Ledger, M: Ledger>(
 // The store that these words ask for, which holds nothing yet: in memory, whose content is told
 // from now on, unless one of them names a file.
 fn vault_for(rt: &HostRuntime, words: &[Txt]) -> HostVault
-    ensures { (⟦<HostVault as Keeper>⟧.seen result).store.called ≡ false }
+    ensures first { (⟦<HostVault as Keeper>⟧.seen result).store.called ≡ false }
+    ensures begins { BeginsEmpty words.now (⟦<HostVault as Keeper>⟧.seen result) }
 {
     let alloc = rt.alloc();
     let state = State {
@@ -138,8 +141,12 @@ fn vault_for(rt: &HostRuntime, words: &[Txt]) -> HostVault
 }
 
 // Whether some word begins as the option that names a store's file.
-fn names_file(words: &[Txt]) -> bool {
-    words.iter().any(|word| word.as_str().starts_with("--db"))
+fn names_file(words: &[Txt]) -> bool
+    ensures { result ≡ asks_for_file words.now }
+{
+    words
+        .iter()
+        .any(|word| word.as_bytes().starts_with(b"--db"))
 }
 
 // Whether the command makes a store that isn't there: a dump, an upgrade and a why take one that
