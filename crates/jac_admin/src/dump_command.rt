@@ -26,8 +26,8 @@ use jac_value::{Bytes, Memory, Value, escape_line};
 use jac_world::Assignment;
 use std::alloc::Global;
 
-/// The steps of a dump: the application, the store, and a line for each record as it looks where
-/// the labels are shown.
+/// The steps of a dump: the application, the store, and a line for each record as an assignment
+/// with these labels shows it.
 pub fn dump<F: Files, O: Sink, U: AuditSink, K: Vault>(
     alloc: Global,
     command: &DumpArgs,

@@ -1,4 +1,4 @@
-//! What a viewer isn't shown of a store, and which policy stands against it.
+//! What a viewer isn't shown of a store, and which policy keeps it hidden.
 ghost use Rattle.std.specs.Prelude.{◌≡◌, ◌≤◌, ◌++◌, false, true, slice_get, IfOk, IsErrOf, IsTrue, OnOk, codes, decimal};
 ghost use Rattle.std.specs.List.{list_all};
 ghost use Rattle.jac_io.specs.Faults.{Rose};
@@ -35,7 +35,7 @@ use std::alloc::Global;
 use std::sync::ledger::Ledger;
 
 /// The steps of a `why`: the application, the store, the labels that the viewer is shown, and a
-/// line for each other live label, with what stands against it. Each of these answers is tested
+/// line for each other live label, with what keeps it hidden. Each of these answers is tested
 /// once more before its line is made.
 pub fn explain<F: Files, O: Sink, U: AuditSink, K: Vault, M: Ledger>(
     alloc: Global,

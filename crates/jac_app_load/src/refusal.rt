@@ -1,4 +1,4 @@
-//! The line that tells why an application is refused.
+//! The line that says why an application is refused.
 ghost use Rattle.std.specs.Prelude.{◌≡◌, ◌++◌, ◌∷◌, [], IfOk, codes, decimal};
 ghost use Rattle.std.specs.String.{string_bytes};
 ghost use Rattle.jac_check.specs.declared.fault.CheckCause.TheVariants as causes;
@@ -24,12 +24,12 @@ pub enum Refusal {
     Template(ViewFault),
     /// A name or a kind of the application is wrong.
     Check(CheckFault),
-    /// The path of the view of this number can't stand beside the earlier ones.
+    /// The path of the view of this number conflicts with an earlier one.
     Clash(u32),
     Memory,
 }
 
-/// The line that tells it.
+/// The line that says it.
 pub fn refusal_line(alloc: Global, refusal: &Refusal) -> Result<Txt, Memory>
     ensures line { IfOk result (λ line. line ≡ refusal_text refusal.now) }
     ensures refused { IfOk result (λ line. ¬ (refusal.now ≡ Refusal.Memory)) }

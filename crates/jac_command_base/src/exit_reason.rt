@@ -16,11 +16,11 @@ use jac_value::Txt;
 pub enum ExitReason {
     ReadFault(Role),
     TooLong(Role),
-    /// The line tells why.
+    /// The line says why.
     AppRefused(Txt),
-    /// The line tells it of the application that a store was to be brought to, as of any other one.
+    /// The line says why the application is refused that a store was to be brought to.
     NewRefused(Txt),
-    /// The line tells what the second application lacks.
+    /// The line says what the second application lacks.
     UpgradeRefused(Txt),
     LineRefused(EventFault),
     /// The line of the sessions of this number, from 1.
@@ -123,7 +123,7 @@ fn limit_bytes(role: Role) -> &'static [u8]
     }
 }
 
-/// Puts the line that tells why a command ended; it takes no memory.
+/// Writes the line that says why a command ended; it takes no memory.
 pub fn put_fault<O: Sink>(
     out: &mut O,
     command: &Command,

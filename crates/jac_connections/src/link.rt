@@ -29,7 +29,7 @@ pub enum Halt {
     Memory,
 }
 
-/// How a connection stands after a piece, and the count of replies by then.
+/// The state of a connection after a piece, and the count of replies by then.
 #[derive(Clone, Copy, PartialEq, Eq)]
 enum Standing {
     Open { count: u64 },

@@ -56,7 +56,7 @@ fn put_onto<N: Link>(link: &mut N, bytes: &[u8]) -> Result<(), Failed>
     }
 }
 
-/// A link, on which the replies of its connection are told as they are.
+/// A link, on which the replies of its connection are written as they are.
 pub struct Wire<'l, N: Link> {
     pub link: &'l mut N,
 }

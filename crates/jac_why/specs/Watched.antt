@@ -1,4 +1,4 @@
--- Which of the labels that are shown are asked again, where one more is.
+-- Which shown labels are asked again if one more is shown.
 use Rattle.std.specs.Prelude.{◌≡◌, ◌==◌, ◌||◌, ℕ, Bool, true, false, List}
 use Rattle.std.specs.Ordering.{nat_cmp}
 use Rattle.std.specs.BTreeMap.{get}

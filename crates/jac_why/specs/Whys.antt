@@ -1,4 +1,4 @@
--- What stands against the labels that a viewer isn't shown.
+-- Why a viewer isn't shown a label.
 use Rattle.std.specs.Prelude.{◌≡◌, ◌&&◌, ◌++◌, ℕ, Bool, not, true, false, if◌then◌else◌, List, [], ◌∷◌, Option, Some, None}
 use Rattle.std.specs.Option.{option_map}
 use Rattle.jac_world.specs.World.{shown_by, with_number}

@@ -1,4 +1,4 @@
-//! Which policy stands against a hidden label.
+//! Which policy keeps a label hidden.
 ghost use Rattle.std.specs.Prelude.{◌≡◌, ◌≤◌, ◌++◌, [], IfOk, OnOk, IsTrue};
 ghost use Rattle.std.specs.Option.{option_map};
 ghost use Rattle.jac_world.specs.World.{shown_by, with_number};
@@ -21,8 +21,8 @@ use jac_world::{Assignment, Label, Steps};
 use std::alloc::Global;
 use std::sync::ledger::Ledger;
 
-/// What stands against a hidden label: of the labels that are shown and this one, the least that
-/// isn't allowed under them. There is none exactly where all are allowed.
+/// What keeps a label hidden: of the labels that are shown and this one, the least that isn't
+/// allowed under them. There is none exactly if all are allowed.
 pub fn why<K: Keeper, M: Ledger>(
     work: &mut Work<'_, K>,
     context: &ViewerContext<'_>,
@@ -43,7 +43,7 @@ pub fn why<K: Keeper, M: Ledger>(
     Ok(as_reason(first))
 }
 
-/// Whether the reason stands against a hidden label: whether its label is one of those that are
+/// Whether the reason keeps a label hidden: whether its label is one of those that are
 /// shown and this one, has this model and this group, and isn't allowed under them.
 pub fn check_reason<K: Keeper, M: Ledger>(
     work: &mut Work<'_, K>,
@@ -77,7 +77,7 @@ pub fn check_reason<K: Keeper, M: Ledger>(
     Ok(!holds)
 }
 
-/// The live labels that aren't shown, in their order, with what stands against each. Where those
+/// The live labels that aren't shown, in their order, with what keeps each hidden. Where those
 /// that are shown are all allowed, each label costs no more than those that consulted it.
 pub fn whys<K: Keeper, M: Ledger>(
     work: &mut Work<'_, K>,

@@ -6,8 +6,7 @@ ghost use Rattle.jac_why.specs.declared.reasons.Reason.{Reason as Told};
 ghost use Rattle.jac_why.specs.Context.{PlainContext};
 ghost use Rattle.jac_why.specs.Whys.{beside, why_hidden, stands_against, is_standing, all_whys, AreExplained};
 
-/// A law: where a reason stands against each live label that isn't shown, none of them can be
-/// added.
+/// A law: if a reason keeps each live label hidden that isn't shown, none of them can be added.
 pub fn explained_is_full()
     ensures { (context : PlainContext) → AreExplained context
         → (k : ℕ) → IsLiveLabel context.app context.worlds k → shown_by context.labels k ≡ false
@@ -15,7 +14,7 @@ pub fn explained_is_full()
         (shown_by context.labels)) }
 {}
 
-/// A law: beside settled labels something stands against each live label that isn't shown.
+/// A law: if labels are settled, something keeps each other live label hidden.
 pub fn settled_is_explained()
     ensures { (context : PlainContext) → IsSettled context.app context.worlds context.viewer
         context.labels
@@ -23,19 +22,19 @@ pub fn settled_is_explained()
         → is_some (why_hidden context k) ≡ true }
 {}
 
-/// A law: what is found stands against the label.
+/// A law: the reason that is found keeps the label hidden.
 pub fn why_stands()
     ensures { (context : PlainContext) (k : ℕ) (reason : Told)
         → why_hidden context k ≡ Some reason → stands_against context k reason ≡ true }
 {}
 
-/// A law: all that is found for a list of labels stands.
+/// A law: each reason that is found for a list of labels keeps its label hidden.
 pub fn whys_stand()
     ensures { (context : PlainContext) (live : List ℕ)
         → list_all (is_standing context) (all_whys context live) ≡ true }
 {}
 
-/// A law: nothing stands against a label exactly where all are allowed once it is shown.
+/// A law: nothing keeps a label hidden exactly if all are allowed once it is shown.
 pub fn none_where_allowed()
     ensures { (context : PlainContext) (k : ℕ)
         → (why_hidden context k ≡ None

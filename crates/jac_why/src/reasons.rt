@@ -5,7 +5,7 @@ ghost use Rattle.jac_why.specs.Named.{as_reason, names_its_label};
 use jac_value::{Id, id_model};
 use jac_world::Label;
 
-/// What stands against a hidden label: a label whose policy isn't true once that one is shown, with
+/// What keeps a label hidden: a label whose policy isn't true once that one is shown, with
 /// the model of its record and its group.
 #[derive(Clone, Copy, PartialEq, Eq)]
 pub struct Reason {
@@ -14,7 +14,7 @@ pub struct Reason {
     pub group: u8,
 }
 
-/// A hidden label, and what stands against it.
+/// A hidden label, and what keeps it hidden.
 #[derive(Clone, Copy, PartialEq, Eq)]
 pub struct Explanation {
     pub hidden: Label,
