@@ -4,7 +4,7 @@
 ends with a count.
 
 Of each application the lines and columns are written down at which it says `look at this`, with the entries that accept
-them; where it has nothing to say, none. Applications are those of checks/looks, each with something that people were
+them; where it has nothing to say, none. Applications are those of checks/linted, each with something that people were
 surprised by, worked cases, examples, and texts below. Of three audits lines are written down. Of `why` the lines and
 the rows of a store are written down, with what is said of them. Where the program is named, it makes these lines and
 rows too, and the same is said of them; where it isn't, that part is skipped."""
@@ -21,6 +21,7 @@ import tempfile
 sys.dont_write_bytecode = True
 TOP = os.path.dirname(os.path.dirname(os.path.abspath(__file__)))
 sys.path.insert(0, os.path.join(TOP, 'tools'))
+import assemble                                                             # noqa: E402
 import audit                                                                # noqa: E402
 import lint_rules                                                           # noqa: E402
 import lint                                                                 # noqa: E402
@@ -39,7 +40,8 @@ def application(case):
 WORDS = {
     'write': 'asks who the viewer is', 'unasked': 'so anybody may decide who',
     'branch': '(?:depends on a condition|finds its record by a value) that',
-    'nobody': 'none equals none', 'copy': 'nobody is shown the label of a record that is gone',
+    'nobody': 'none equals none|a stranger (?:is shown what has the same|may do this where this is the same)',
+    'copy': 'nobody is shown the label of a record that is gone',
     'sum': 'where it is hidden its public value counts', 'markup': 'each page is sent as HTML',
     'escape': 'escaping does not protect this place', 'redirect': 'may lead to another site',
     'unlinked': 'no page of this application leads here',
@@ -78,9 +80,43 @@ TRAPS = {
         (5, 7, 'branch Person.boss'), (9, 7, 'branch Person.boss'), (10, 13, 'branch Person.salary')],
     'checks/linted/tasks.app': [(5, 67, 'nobody (get Task helper this)'), (12, 13, 'nobody (get Task of id)')],
     'checks/linted/tickets.app': [(9, 7, 'branch Ticket')],
-    'checks/linted/visits.app': [(9, 29, 'branch Visit'), (14, 8, 'branch Visit')],
+    'checks/linted/visits.app': [(9, 29, 'branch Visit'), (14, 8, 'branch Visit'), (14, 36, 'unasked Visit')],
     'checks/linted/wards.app': [(7, 37, 'unasked Person.nurse'), (11, 26, 'unasked Person.ward')],
+    # loops in loops, references that are followed, orders that decide, and numbers that a loop adds up
+    'checks/linted/prizes.app': [
+        (12, 12, 'branch Score.points'), (20, 32, 'branch Score.points'), (25, 32, 'branch Score.points'),
+        (30, 58, 'sum Score.points')],
+    # fields of the viewer, what a policy finds by a reference or by an order, names that are bound again
+    'checks/linted/teams.app': [
+        (6, 44, 'nobody (get Plan team this)'), (11, 97, 'nobody (get Member person m)'), (21, 58, 'unasked Team'),
+        (22, 89, 'unasked Member.rank'), (23, 91, 'unasked Person.chair'), (29, 14, 'nobody (get Plan team id)'),
+        (34, 37, 'write Plan.words')],
+    # what the check of a view asks, a value that is assigned, and a copy of a hidden record
+    'checks/linted/guards.app': [
+        (10, 3, 'unasked Shift'), (12, 37, 'unasked Person.guard'), (24, 28, 'write Door.code'),
+        (27, 34, 'copy Diary.words')],
+    # addresses, branches and loops that end inside of a tag, markup behind names
+    'checks/linted/signs.app': [
+        (6, 19, 'escape q'), (6, 48, 'escape q'), (8, 67, 'escape Person.name'), (9, 74, 'escape link'),
+        (9, 121, 'escape link'), (10, 20, 'escape Sign.words'), (10, 69, 'escape link'), (11, 90, 'escape q'),
+        (12, 12, 'unlinked'), (17, 21, 'escape q'), (17, 39, 'markup shown'), (18, 47, 'escape q'),
+        (20, 9, 'escape Sign.words')],
+    'checks/linted/ways.app': [
+        (4, 94, 'redirect to'), (5, 77, 'redirect to'), (6, 93, 'redirect to'), (10, 14, 'redirect Way.to'),
+        (11, 89, 'redirect to')],
 }
+# An application in a folder: each place is one in a part, and the entry has its view.
+HALL = [
+    ('pages/rules:2:1', 'model Booking: nobody (get Booking team this)'),
+    ('main:10:104', 'view post /book: redirect day'),
+    ('pages/rules:2:1', 'view post /booking/{id}/remove: nobody (get Booking team id)'),
+    ('pages/list.html:4:58', 'view get /: escape Booking.day'),
+    ('pages/list.html:4:90', 'view get /: markup Booking.words'),
+    ('pages/rules:4:81', 'view get /: escape Booking.day'),
+    ('pages/list.html:4:58', 'view get /{day}: escape Booking.day'),
+    ('pages/list.html:4:90', 'view get /{day}: markup Booking.words'),
+    ('pages/rules:4:81', 'view get /{day}: escape Booking.day'),
+]
 EXAMPLES = {
     'examples/agenda.app': [(22, 35, 'branch Event.title')],
     'examples/courses.app': [],
@@ -111,6 +147,18 @@ MODEL = '''(app (viewer User)
 '''
 # what is right, in forms that a rash look would take for a fault, and what is hidden from one behind a name
 VIEWS = {
+    'a loop that counts what is found by a guarded text': ('''
+ (view get "/" (params (q text) (skip int))
+  (let place 0
+   (for (from ((c Card)) (not (lt (get Card phone c) q)) (up c phone))
+    (if (lt place skip) () ((put place)))
+    (assign place (add place 1)))
+   (put place)))''', []),
+    'a loop that adds what a name stands for': ('''
+ (view get "/" (params)
+  (let all 0
+   (for (from ((c Card)) true key) (let calls (get Card calls c) (assign all (add calls all))))
+   (put all)))''', [(8, 47, 'sum Card.calls')]),
     'who looks stands behind a name': ('''
  (view post "/card/{id}" (params (id (ref Card)) (phone text))
   (let mine (and (live viewer) (eq (get Card owner id) viewer))
@@ -391,6 +439,16 @@ def of_whole_examples():
         yield None if right else '%s: status %d, %s' % (path, status, out)
 
 
+def of_folder():
+    """An application in a folder, where Jinja2 puts it together."""
+    status, out = run(lint, ['checks/linted/hall', '--accepted', os.devnull])
+    have = re.findall(r'(?m)^checks/linted/hall/(\S+?:\d+:\d+): look at this.*\n(?:    .*\n)*?'
+                      r'    accepted as: (.*)$', out)
+    if status == assemble.UNAVAILABLE:
+        return []
+    return [None if (status, have) == (1, HALL) else 'the hall: want %s, have status %d and %s' % (HALL, status, out)]
+
+
 def of_accepted(folder):
     """What is said of an application where something was accepted."""
     path = os.path.join(folder, 'fire.app')
@@ -513,8 +571,8 @@ def of_program(program):
 def main():
     with tempfile.TemporaryDirectory() as folder:
         results = [*of_texts(folder), *(looked(name, name, want) for name, want in {**TRAPS, **EXAMPLES}.items()),
-                   *of_whole_examples(), *of_accepted(folder), *of_refusals(folder), *of_commands(), *of_all_cases(),
-                   *of_audits(), *of_reasons()]
+                   *of_whole_examples(), *of_folder(), *of_accepted(folder), *of_refusals(folder), *of_commands(),
+                   *of_all_cases(), *of_audits(), *of_reasons()]
     if sys.argv[1:]:
         results += of_program(proved.program(proved.first_word()))
     for wrong in filter(None, results):

@@ -6,9 +6,10 @@ It never says that something is wrong, and it says nothing of what it doesn't fi
   write     a post view sets a guarded field from what was sent, and nothing asks who the viewer is
   unasked   a post view changes what a policy or a check of the viewer reads, and nothing asks who the viewer is
   branch    a write depends on what may be hidden: what it stores is there for those alone who are shown that
-  nobody    a reference is compared with viewer, and nothing asks (live viewer): none equals none, for a stranger
-  copy      a guarded field is stored elsewhere by a view that deletes such a record
-  sum       guarded numbers are added up: a hidden one counts as its public value
+  nobody    a reference is compared with viewer, and nothing asks (live viewer): none equals none, for a stranger. So is
+            a field with one of the viewer's, since a stranger's are none, 0, false and empty
+  copy      a guarded field, or one of a hidden record, is stored elsewhere by a view that deletes such a record
+  sum       guarded numbers are added up, by a sum or in a loop: a hidden one counts as its public value
   markup    a text that the application doesn't fix is put unescaped
   escape    a text is escaped where that doesn't protect the page: an attribute without quotes, a script, an address
   redirect  a redirect leads where a parameter or a stored text says

@@ -1,6 +1,7 @@
 """What there is to look at in the text of an application. `found_in` answers it for a text, and tools/lint.py prints it
 and says what each kind means. Nothing here says that an application is wrong."""
 import collections
+import itertools
 import os
 import re
 import sys
@@ -12,6 +13,10 @@ from markup import Markup                                                   # no
 
 KINDS = ('write', 'unasked', 'branch', 'nobody', 'copy', 'sum', 'markup', 'escape', 'redirect', 'unlinked')
 STORES = {'create': 'a create', 'update': 'an update', 'delete': 'a delete'}
+# What tells a name from another one of the same view that is spelled alike; no name of an application has it.
+AGAIN = '\''
+# How many texts that a place may have before it are kept apart.
+MOST = 64
 # How the text begins that leads within this site, or to one that the application names.
 OWN_SITE = re.compile(r'/[^/\\]|[?#]|\.{1,2}/|https?://[^/?#]+[/?#]|[A-Za-z0-9_-]+[/?#]')
 
@@ -30,12 +35,21 @@ HIDDEN_RECORD = (
 NOBODY_IN_POLICY = (
     'this policy compares a reference with viewer and does not ask (live viewer): where nobody asks viewer is '
     'none, and none equals none, so a stranger is shown what has none here')
+NOBODY_OF_FIELD = (
+    'this policy compares %s, which is read of the viewer, and does not ask (live viewer): where nobody asks it is %s, '
+    'so a stranger is shown what has the same here')
 NOBODY_AROUND_WRITE = (
     '%s depends on this comparison with viewer, and nothing asks (live viewer): where nobody asks viewer is none, and '
     'none equals none, so a stranger may do this where this is none')
+NOBODY_AROUND_FIELD = (
+    '%s depends on this comparison with %s, which is read of the viewer, and nothing asks (live viewer): where nobody '
+    'asks it is %s, so a stranger may do this where this is the same')
 COPIED = (
     'the guarded %s of a %s is stored here, and this view deletes a %s too: nobody is shown the label of a record'
     ' that is gone, so the copy reads as its public value for everybody, for good')
+COPIED_RECORD = (
+    'the %s of a %s, which a group hides, is stored here, and this view deletes a %s too: nobody is shown the label of'
+    ' a record that is gone, so the copy reads as the default of its kind for everybody, for good')
 SUMMED = 'the guarded %s of %s is added up here: where it is hidden its public value counts'
 RAW = (
     'this puts a text as it is, and each page is sent as HTML, so markup in %s is markup of the page: esc, or {{ '
@@ -59,7 +73,7 @@ class Found(collections.namedtuple('Found', 'start place kind subject words')):
         return '%s: %s' % (self.place, ' '.join(filter(None, (self.kind, self.subject))))
 
 
-Step = collections.namedtuple('Step', 'node conditions sent')
+Step = collections.namedtuple('Step', 'node conditions')
 Condition = collections.namedtuple('Condition', 'node holds')
 Read = collections.namedtuple('Read', 'node subject words')
 
@@ -128,15 +142,133 @@ def inside(node):
             left += reversed(one.children[1:])
 
 
+def meaning(node):
+    """What a name stands for that one `let` binds and no `assign` changes; any other expression is itself."""
+    while getattr(node, 'means', None) is not None:
+        node = node.means
+    return node
+
+
+def spelled_out(node):
+    """The expressions in an expression, with those in what its names stand for."""
+    for one in inside(node):
+        yield one
+        if meaning(one) is not one:
+            yield from spelled_out(meaning(one))
+
+
 def is_viewer(node):
-    return node.is_atom('viewer')
+    return meaning(node).is_atom('viewer')
+
+
+def is_of_viewer(node):
+    """Whether a field is read of the viewer, or of a record that such a field refers to."""
+    node = meaning(node)
+    return node.head() == 'get' and (is_viewer(node.children[3]) or is_of_viewer(node.children[3]))
+
+
+def spelled(name):
+    """A name as the application has it."""
+    return name.partition(AGAIN)[0]
 
 
 def text_of(node):
-    """An expression as one text, by which two that are written alike are one."""
+    """An expression as it is written."""
+    if node.kind != 'list':
+        return spelled(node.value) if node.kind == 'atom' else repr(node.value)
+    return '(%s)' % ' '.join(text_of(child) for child in node.children)
+
+
+def fact_of(node):
+    """An expression as one text, by which two are one that are written alike but for names of what is written out."""
+    node = meaning(node)
     if node.kind != 'list':
         return node.value if node.kind == 'atom' else repr(node.value)
-    return '(%s)' % ' '.join(text_of(child) for child in node.children)
+    return '(%s)' % ' '.join(fact_of(child) for child in node.children)
+
+
+class Apart:
+    """Tells the names of a view apart: one that is bound again has a number after it from there on."""
+
+    def __init__(self, view):
+        self.counts = {}
+        names = {}
+        for param in view.children[3].children[1:]:
+            self.bind(param.children[0], names)
+        self.statements(view.children[4:], names)
+
+    def bind(self, node, names):
+        """Binds a name, in these names."""
+        word = node.value
+        self.counts[word] = self.counts.get(word, 0) + 1
+        node.value = names[word] = word if self.counts[word] == 1 else '%s%s%d' % (word, AGAIN, self.counts[word])
+
+    def statements(self, nodes, names):
+        for node in nodes:
+            self.statement(node, names)
+
+    def statement(self, node, names):
+        word, parts = node.head(), node.children[1:]
+        if word == 'template':
+            self.statements(written(node), names)
+        elif word == 'if':
+            self.expression(parts[0], names)
+            self.statements(parts[1].children, names)
+            self.statements(parts[2].children, names)
+        elif word == 'for':
+            self.statements(parts[1:], self.query(parts[0], names))
+        elif word == 'let':
+            self.expression(parts[1], names)
+            self.statements(parts[2:], self.bound(parts[0], names))
+        elif word == 'create':
+            self.cells(parts[2], names)
+            self.statements(parts[3:], self.bound(parts[0], names))
+        else:
+            self.simple(word, parts, names)
+
+    def simple(self, word, parts, names):
+        """A statement that binds nothing."""
+        if word == 'assign':
+            parts[0].value = names[parts[0].value]
+        if word == 'update':
+            self.cells(parts[2], names)
+        if parts:
+            self.expression(parts[1 if word in ('assign', 'update', 'delete') else 0], names)
+
+    def cells(self, node, names):
+        for cell in node.children[1:]:
+            self.expression(cell.children[1], names)
+
+    def bound(self, node, names):
+        inner = dict(names)
+        self.bind(node, inner)
+        return inner
+
+    def query(self, node, names):
+        """The names inside of a query."""
+        inner, order = dict(names), node.children[3]
+        own = {}
+        for binder in node.children[1].children:
+            self.bind(binder.children[0], own)
+        inner.update(own)
+        self.expression(node.children[2], inner)
+        if order.kind == 'list':
+            order.children[1].value = own[order.children[1].value]
+        return inner
+
+    def expression(self, node, names):
+        word = node.head()
+        if node.kind == 'atom':
+            node.value = names.get(node.value, node.value)
+        elif word in ('count', 'sum', 'some', 'first'):
+            inner = self.query(node.children[1], names)
+            for part in node.children[2:]:
+                self.expression(part, inner)
+        elif word == 'get':
+            self.expression(node.children[3], names)
+        elif word is not None and word != 'none':
+            for part in node.children[1:]:
+                self.expression(part, names)
 
 
 class View:
@@ -147,46 +279,66 @@ class View:
         self.is_post = node.children[1].value == 'post'
         self.place = 'view %s %s' % (node.children[1].value, self.path)
         self.body = node.children[4:]
+        Apart(node)
         self.params = {param.children[0].value for param in node.children[3].children[1:]}
         self.steps = list(self.walk())
         self.values, self.influences = {}, {}
         for step in self.steps:
-            if step.node.head() in ('let', 'assign'):
-                name = step.node.children[1].value
-                self.values.setdefault(name, []).append(step.node.children[2])
-                around = [condition.node for condition in step.conditions] if step.node.head() == 'assign' else []
-                self.influences.setdefault(name, []).extend([step.node.children[2], *around])
+            self.note_binding(step)
+        self.sent = self.names_sent()
+        for step in self.steps:
+            for part in expressions_of(step.node):
+                self.note_meanings(part)
+
+    def note_binding(self, step):
+        """Notes what a `let` or an `assign` binds, and what an `assign` depends on."""
+        if step.node.head() in ('let', 'assign'):
+            name, value = step.node.children[1].value, step.node.children[2]
+            self.values.setdefault(name, []).append(value)
+            around = [one for condition in step.conditions for one in in_turn(condition.node)]
+            self.influences.setdefault(name, []).extend([value, *(around if step.node.head() == 'assign' else [])])
+
+    def note_meanings(self, expression):
+        for node in inside(expression):
+            if node.kind == 'atom' and len(self.values.get(node.value, ())) == 1:
+                node.means = self.values[node.value][0]
+
+    def names_sent(self):
+        """The names that are bound to what was sent, as it is or computed."""
+        sent, before = set(self.params), None
+        while sent != before:
+            before = set(sent)
+            sent.update(name for name, values in self.values.items()
+                        if any(names_in(value, before) for value in values))
+        return sent
 
     def walk(self):
-        """Each statement, with the names that are bound there to what was sent."""
-        left = [Step(statement, (), frozenset(self.params)) for statement in reversed(self.body)]
+        """Each statement, with the conditions around it."""
+        left = [Step(statement, ()) for statement in reversed(self.body)]
         while left:
             step = left.pop()
             yield step
             left += reversed(list(self.below(*step)))
 
-    def below(self, node, conditions, sent):
+    def below(self, node, conditions):
         """The statements right inside a statement."""
         word, parts = node.head(), node.children[1:]
+        below = []
         if word == 'if':
             for body, holds in ((parts[1], True), (parts[2], False)):
                 for one in body.children:
-                    yield Step(one, conditions + (Condition(parts[0], holds),), sent)
-            return
-        below = []
-        if word == 'let':
-            sent = sent | {parts[0].value} if names_in(parts[1], sent) else sent - {parts[0].value}
+                    yield Step(one, conditions + (Condition(parts[0], holds),))
+        elif word == 'let':
             below = parts[2:]
         elif word == 'for':
-            sent = sent - {binder.children[0].value for binder in parts[0].children[1].children}
             conditions = conditions + (Condition(parts[0], True),)
             below = parts[1:]
         elif word == 'create':
-            sent, below = sent - {parts[0].value}, parts[3:]
+            below = parts[3:]
         elif word == 'template':
             below = written(node)
         for one in below:
-            yield Step(one, conditions, sent)
+            yield Step(one, conditions)
 
     def meant(self, node):
         """The expressions in an expression, with those that its names depend on."""
@@ -203,6 +355,14 @@ class View:
 
     def stores(self):
         return [step for step in self.steps if step.node.head() in STORES]
+
+
+def in_turn(condition):
+    """A condition around an `assign`; where it is a query with an order, the value depends on that too."""
+    if condition.head() == 'from' and condition.children[3].kind == 'list':
+        word = fault_place.Node('atom', condition.start, condition.start, 'first')
+        return [condition, fault_place.Node('list', condition.start, condition.end, None, [word, condition])]
+    return [condition]
 
 
 def names_in(node, names):
@@ -237,29 +397,58 @@ class Application:
         self.hiding = {policy.model for policy in self.policies if policy.hides}
         self.guarded = {(policy.model, field) for policy in self.policies for field in policy.guards}
         self.read_fields, self.ranges, self.roles = {}, {}, {}
+        self.found, self.checked_fields, self.checked_records = {}, {}, {}
         for policy in self.policies:
             self.note_reads(policy)
         for view in self.views:
             for step in view.stores():
-                self.note_roles(view, step)
+                self.note_checks(view, step)
 
     def note_reads(self, policy):
-        """Which fields a policy reads, of the viewer among others, and over which models it ranges."""
+        """Which fields a policy reads, of the viewer among others, and whose records it finds."""
         for node in inside(policy.condition):
-            if node.head() == 'get':
+            word = node.head()
+            if word == 'get':
                 cell = node.children[1].value, node.children[2].value
                 self.read_fields.setdefault(cell, policy.model)
                 if is_viewer(node.children[3]):
                     self.roles.setdefault(cell, 'the policy of %s' % policy.model)
-            elif node.head() == 'from':
+            elif word == 'from':
                 for model in models_of(node):
                     self.ranges.setdefault(model, policy.model)
+            elif word == 'first' and ordered_by(node.children[1]):
+                self.read_fields.setdefault(ordered_by(node.children[1]), policy.model)
+            if word in ('get', 'live') and not node.children[-1].is_atom('this'):
+                self.found.setdefault(node.children[-1].value_kind[1], policy.model)
 
-    def note_roles(self, view, step):
+    def note_checks(self, view, step):
+        """What the conditions around a write ask of the viewer: the viewer's fields, and records and fields in which
+        the viewer is looked for."""
+        place = 'the ' + view.place
         for condition in step.conditions:
-            for node in view.meant(condition.node):
-                if node.head() == 'get' and is_viewer(node.children[3]):
-                    self.roles.setdefault((node.children[1].value, node.children[2].value), 'the ' + view.place)
+            own = condition.node.children[2] if condition.node.head() == 'from' else condition.node
+            for node in view.meant(own):
+                word = node.head()
+                if word == 'get' and is_viewer(node.children[3]):
+                    self.roles.setdefault((node.children[1].value, node.children[2].value), place)
+                elif word == 'eq' and any(map(is_viewer, node.children[1:])):
+                    for read in (meaning(part) for part in node.children[1:]):
+                        if read.head() == 'get':
+                            self.checked_fields.setdefault((read.children[1].value, read.children[2].value), place)
+                elif word == 'from' and any(is_viewer(one) for one in inside(node)):
+                    self.note_search(node, place)
+
+    def note_search(self, query, place):
+        """What is asked where the viewer is looked for: of the viewer, or of records that refer to the viewer."""
+        facts, asked = facts_of(query), {}
+        for name, model in zip(names_of(query), models_of(query)):
+            is_own = {'(eq %s viewer)' % name, '(eq viewer %s)' % name} & facts
+            asked[name] = self.roles if is_own else self.checked_fields
+            if not is_own:
+                self.checked_records.setdefault(model, place)
+        for node in inside(query):
+            if node.head() == 'get' and node.children[3].kind == 'atom' and node.children[3].value in asked:
+                asked[node.children[3].value].setdefault((node.children[1].value, node.children[2].value), place)
 
     def posts(self):
         return [view for view in self.views if view.is_post]
@@ -291,14 +480,19 @@ class Application:
             yield hidden_record(node, model, 'reads the %s of' % field, own)
 
     def reads_of_order(self, query):
-        order = query.children[3]
-        models = {binder.children[0].value: binder.children[1].value for binder in query.children[1].children}
-        if order.kind == 'list' and (models[order.children[1].value], order.children[2].value) in self.guarded:
-            yield hidden_field(order, models[order.children[1].value], order.children[2].value, 'is sorted by', False)
+        if ordered_by(query) in self.guarded:
+            yield hidden_field(query.children[3], *ordered_by(query), 'is sorted by', False)
 
 
 def models_of(query):
     return [binder.children[1].value for binder in query.children[1].children]
+
+
+def ordered_by(query):
+    """The model and the field by which a query is ordered, or None."""
+    order = query.children[3]
+    models = {binder.children[0].value: binder.children[1].value for binder in query.children[1].children}
+    return (models[order.children[1].value], order.children[2].value) if order.kind == 'list' else None
 
 
 def names_of(query):
@@ -331,7 +525,7 @@ def writes(application):
             model = node.children[1 if word == 'update' else 2].value
             cells = node.children[3].children[1:]
             fields = [cell.children[0] for cell in cells if (model, cell.children[0].value) in application.guarded
-                      and names_in(cell.children[1], step.sent)]
+                      and names_in(cell.children[1], view.sent)]
             if not fields:
                 continue
             names = ' and '.join(field.value for field in fields)
@@ -355,18 +549,33 @@ def powers(application, node):
     """What a statement changes that policies, or checks of the viewer, depend on."""
     word = node.head()
     model = node.children[2 if word == 'create' else 1].value
+    does = 'makes' if word == 'create' else 'deletes'
     if word in ('create', 'delete') and model in application.ranges:
         yield node, model, '%s a %s, and the policy of %s goes over these records' % (
-            'makes' if word == 'create' else 'deletes', model, application.ranges[model]), 'sees what'
+            does, model, application.ranges[model]), 'sees what'
+    elif word in ('create', 'delete') and model in application.checked_records:
+        yield node, model, '%s a %s, and %s looks for the viewer in these records' % (
+            does, model, application.checked_records[model]), 'may do that'
+    elif word == 'delete' and model in application.found:
+        yield node, model, 'deletes a %s, and the policy of %s reads such a record' % (
+            model, application.found[model]), 'sees what'
     for cell in node.children[3].children[1:] if word != 'delete' else ():
-        field = model, cell.children[0].value
-        if field in application.roles and not cell.children[1].is_atom('false'):
-            place = application.roles[field]
-            words = 'sets the %s of a %s, which %s asks of the viewer' % (field[1], model, place)
-            yield cell, '.'.join(field), words, 'sees what' if place.startswith('the policy') else 'may do that'
-        elif word == 'update' and field in application.read_fields:
-            yield cell, '.'.join(field), 'changes the %s of a %s, which the policy of %s reads' % (
-                field[1], model, application.read_fields[field]), 'sees what'
+        yield from powers_of_cell(application, word, model, cell)
+
+
+def powers_of_cell(application, word, model, cell):
+    field = model, cell.children[0].value
+    subject = '.'.join(field)
+    if field in application.roles and not cell.children[1].is_atom('false'):
+        place = application.roles[field]
+        words = 'sets the %s of a %s, which %s asks of the viewer' % (field[1], model, place)
+        yield cell, subject, words, 'sees what' if place.startswith('the policy') else 'may do that'
+    elif word == 'update' and field in application.read_fields:
+        yield cell, subject, 'changes the %s of a %s, which the policy of %s reads' % (
+            field[1], model, application.read_fields[field]), 'sees what'
+    elif word == 'update' and field in application.checked_fields:
+        yield cell, subject, 'changes the %s of a %s, in which %s looks for the viewer' % (
+            field[1], model, application.checked_fields[field]), 'may do that'
 
 
 def branches(application):
@@ -393,38 +602,42 @@ def branches(application):
 
 def nobody(application):
     for policy in application.policies:
-        for node, other in strangers(policy.condition, {}, True, frozenset(['this']), set()):
-            yield Found(node.start, policy.place(), 'nobody', text_of(other), NOBODY_IN_POLICY)
+        for node, one, other in strangers(policy.condition, True, frozenset(['this']), frozenset()):
+            yield Found(node.start, policy.place(), 'nobody', text_of(one), NOBODY_IN_POLICY if is_viewer(other)
+                        else NOBODY_OF_FIELD % (text_of(other), default_of(other)))
     for view in application.posts():
         for step in view.stores():
-            facts = {fact for condition in step.conditions if condition.holds
-                     for fact in facts_of(condition.node, view.values)}
+            facts = {fact for condition in step.conditions for fact in facts_of(condition.node, condition.holds)}
             loops = [node for node, _ in step.conditions if node.head() == 'from']
             certain = frozenset(name for loop in loops for name in names_of(loop))
+            store = STORES[step.node.head()]
             for node, holds in step.conditions:
-                for eq, other in strangers(node, view.values, holds, certain, facts):
-                    yield Found(eq.start, view.place, 'nobody', text_of(other),
-                                NOBODY_AROUND_WRITE % STORES[step.node.head()])
+                for eq, one, other in strangers(node, holds, certain, frozenset(facts)):
+                    yield Found(eq.start, view.place, 'nobody', text_of(one), NOBODY_AROUND_WRITE % store if is_viewer(
+                        other) else NOBODY_AROUND_FIELD % (store, text_of(other), default_of(other)))
 
 
-def facts_of(node, values):
-    """What is so where a condition is true, each as a text."""
-    word = node.head()
-    if word == 'and':
-        return facts_of(node.children[1], values) | facts_of(node.children[2], values)
+def facts_of(node, holds=True):
+    """What is so where a condition is true, or is false, each as a text."""
+    node = meaning(node)
+    word, parts = node.head(), node.children[1:]
+    if word == ('and' if holds else 'or'):
+        return facts_of(parts[0], holds) | facts_of(parts[1], holds)
+    if word == 'not':
+        return facts_of(parts[0], not holds) | ({fact_of(node)} if holds else set())
     if word == 'from':
-        return facts_of(node.children[2], values)
-    if word == 'some':
-        names, facts = names_of(node.children[1]), facts_of(node.children[1], values)
+        return facts_of(parts[1]) if holds else set()
+    if word == 'some' and holds:
+        names, facts = names_of(parts[0]), facts_of(parts[0])
         are_viewer = {'(eq %s viewer)' % name for name in names} | {'(eq viewer %s)' % name for name in names}
         return {'(live viewer)'} if is_somebody(facts) or are_viewer & facts else set()
-    if node.kind == 'atom' and len(values.get(node.value, ())) == 1:
-        return facts_of(values[node.value][0], {})
-    return {text_of(node)}
+    return {fact_of(node) if holds else '(not %s)' % fact_of(node)}
 
 
-# A field of nobody is false, or the empty text.
-SOMEBODY = re.compile(r'\(live viewer\)|\(get \S+ \S+ viewer\)|\(eq \(get \S+ \S+ viewer\) b([\'"]).+\1\)|'
+# A field of nobody is false, 0, none, or the empty text.
+SOMEBODY = re.compile(r'\(live (?:viewer|\(get \S+ \S+ viewer\))\)|\(get \S+ \S+ viewer\)|'
+                      r'\(eq \(get \S+ \S+ viewer\) (?:b([\'"]).+\1|-?[1-9][0-9]*)\)|'
+                      r'\(lt [0-9]+ \(get \S+ \S+ viewer\)\)|'
                       r'\(not \(eq (?:viewer \(none \S+\)|\(none \S+\) viewer)\)\)')
 
 
@@ -433,43 +646,78 @@ def is_somebody(facts):
     return any(SOMEBODY.fullmatch(fact) for fact in facts)
 
 
-def strangers(node, values, holds, certain, facts):
-    """The comparisons with viewer that make a condition hold where both are none, each with what is compared. `certain`
-    has the names that are never none, and `facts` what is so besides."""
+def strangers(node, holds, certain, facts):
+    """The comparisons with viewer, or with what is read of the viewer, that make a condition hold where nobody asks,
+    each with its two sides. `certain` has the names that are never none, and `facts` what is so besides."""
+    node = meaning(node)
     word, parts = node.head(), node.children[1:]
-    if word == 'eq':
+    if word in ('eq', 'lt'):
         yield from compared(node, holds, certain, facts)
-        for part in (part for part in parts if part.head() == 'count'):
-            yield from strangers(part.children[1], values, not holds, certain, facts)
-        return
-    if node.kind == 'atom' and len(values.get(node.value, ())) == 1:
-        yield from strangers(values[node.value][0], {}, holds, certain, facts)
+        yield from counted(node, holds, certain, facts)
     elif word == 'not':
-        yield from strangers(parts[0], values, not holds, certain, facts)
+        yield from strangers(parts[0], not holds, certain, facts)
     elif word in ('and', 'or'):
-        sure = facts | facts_of(node, values) if word == 'and' and holds else facts
+        sure = facts | facts_of(node, holds) if word == ('and' if holds else 'or') else facts
         for part in parts:
-            yield from strangers(part, values, holds, certain, sure)
+            yield from strangers(part, holds, certain, sure)
     elif word == 'from':
-        yield from strangers(parts[1], values, holds, certain.union(names_of(node)), facts)
+        yield from strangers(parts[1], holds, certain.union(names_of(node)), facts)
     elif word == 'some':
-        yield from strangers(parts[0], values, holds, certain, facts)
-    elif word == 'lt':
-        for query in (one for part in parts for one in inside(part) if one.head() == 'from'):
-            yield from strangers(query, values, holds, certain, facts)
+        yield from strangers(parts[0], holds, certain, facts)
+    elif word in ('get', 'live') and holds:
+        yield from counted(node, holds, certain, facts)
     elif word == 'pick':
-        for part, is_so in ((parts[0], True), (parts[0], False), (parts[1], holds), (parts[2], holds)):
-            yield from strangers(part, values, is_so, certain, facts)
+        for is_so, part in ((True, parts[1]), (False, parts[2])):
+            yield from strangers(parts[0], is_so, certain, facts)
+            yield from strangers(part, holds, certain, facts | facts_of(parts[0], is_so))
+
+
+def queries_in(node):
+    """The outermost queries in an expression, each with the word before it."""
+    node = meaning(node)
+    if node.head() in ('count', 'sum', 'some', 'first'):
+        return [(node.head(), node.children[1])]
+    parts = node.children[3:] if node.head() == 'get' else node.children[1:]
+    return [one for part in parts for one in queries_in(part)] if node.head() not in (None, 'none') else []
+
+
+def counted(node, holds, certain, facts):
+    """The comparisons in the queries of an `eq`, an `lt`, a `get` or a `live`. A count that is 0, or less than another
+    number, finds nothing."""
+    parts = node.children[-1:] if node.head() in ('get', 'live') else node.children[1:]
+    is_none = node.head() == 'eq' and any(part.is_atom('0') for part in parts)
+    for place, part in enumerate(parts):
+        for word, query in queries_in(part):
+            is_few = is_none or node.head() == 'lt' and place == 0
+            yield from strangers(query, holds != (is_few and word in ('count', 'sum')), certain, facts)
+
+
+def default_of(node):
+    """What a field of nobody is, in words."""
+    kind = meaning(node).value_kind
+    return 'none' if isinstance(kind, tuple) else {'int': '0', 'text': 'the empty text', 'bool': 'false'}[kind]
+
+
+def is_fixed(node):
+    """Whether an expression is written out: with such a one a field of the viewer may well be compared."""
+    node = meaning(node)
+    return node.kind == 'text' or node.head() == 'none' or node.kind == 'atom' and bool(
+        re.fullmatch('true|false|-?[0-9]+', node.value))
 
 
 def compared(node, holds, certain, facts):
     one, other = node.children[1:]
-    if is_viewer(one):
+    if is_viewer(one) or is_of_viewer(one) and not is_viewer(other):
         one, other = other, one
-    if not holds or not is_viewer(other) or is_viewer(one) or one.head() == 'none' or is_somebody(facts):
+    if node.head() != 'eq' or not holds or not (is_viewer(other) or is_of_viewer(other)) or is_somebody(facts):
         return
-    if not (one.kind == 'atom' and one.value in certain) and '(live %s)' % text_of(one) not in facts:
-        yield node, one
+    if is_viewer(one) or is_of_viewer(one) or is_fixed(one):
+        return
+    default = {'0': '0', 'none': '', 'the empty text': "b''", 'false': 'false'}[default_of(other)]
+    is_other = {'(live %s)' % fact_of(one), '(live %s)' % fact_of(other)} | {
+        '(not (eq %s %s))' % sides for sides in ((fact_of(one), default), (default, fact_of(one)))}
+    if not (one.kind == 'atom' and one.value in certain) and not is_other & facts:
+        yield node, one, other
 
 
 # What is stored.
@@ -480,11 +728,16 @@ def copies(application):
         deleted = {step.node.children[1].value for step in view.stores() if step.node.head() == 'delete'}
         for step in view.stores():
             for cell in step.node.children[3].children[1:] if step.node.head() != 'delete' else ():
-                for node in application.guarded_reads(view.meant(cell.children[1])):
-                    model, field = node.children[1].value, node.children[2].value
-                    if model in deleted:
-                        yield Found(node.start, view.place, 'copy', '%s.%s' % (model, field),
-                                    COPIED % (field, model, model))
+                for node in view.meant(cell.children[1]):
+                    if node.head() == 'get' and node.children[1].value in deleted:
+                        yield from copied(application, view, node)
+
+
+def copied(application, view, node):
+    model, field = node.children[1].value, node.children[2].value
+    if (model, field) in application.guarded or model in application.hiding:
+        words = COPIED if (model, field) in application.guarded else COPIED_RECORD
+        yield Found(node.start, view.place, 'copy', '%s.%s' % (model, field), words % (field, model, model))
 
 
 def sums(application):
@@ -498,6 +751,21 @@ def sums(application):
                 model, field = read.children[1].value, read.children[2].value
                 if not is_known(application, model, field, node.children[1].children[2]):
                     yield Found(read.start, place, 'sum', '%s.%s' % (model, field), SUMMED % (field, model))
+
+
+def sums_by_hand(application):
+    """Guarded numbers that a loop adds to a name, unless a condition around asks a truth value of the same group."""
+    for view in application.views:
+        for node, conditions in view.steps:
+            value = node.children[2] if node.head() == 'assign' else None
+            loops = any(condition.node.head() == 'from' for condition in conditions)
+            if value is None or not loops or value.head() not in ('add', 'sub') or not any(
+                    one.is_atom(node.children[1].value) for one in inside(value)):
+                continue
+            for read in application.guarded_reads(spelled_out(value)):
+                model, field = read.children[1].value, read.children[2].value
+                if not any(is_known(application, model, field, condition.node) for condition in conditions):
+                    yield Found(read.start, view.place, 'sum', '%s.%s' % (model, field), SUMMED % (field, model))
 
 
 def expressions_of(statement):
@@ -523,65 +791,77 @@ def pages(application):
     """Texts that are put raw, and texts that are escaped where that doesn't protect them."""
     for view in application.views:
         putting = Putting(view)
-        putting.statements(view.body, Markup())
+        putting.statements(view.body, [Markup()])
         yield from putting.found
 
 
 class Putting:
-    """Goes over the statements of a view as a page is put, and notes where a text is put that somebody else chose."""
+    """Goes over the statements of a view as a page is put, and notes where a text is put that somebody else chose. What
+    was put before a statement may differ, by the branches taken: each is a `Markup` of its own."""
 
     def __init__(self, view):
         self.view, self.found = view, []
 
-    def statements(self, nodes, markup):
+    def statements(self, nodes, before):
         for node in nodes:
-            markup = self.statement(node, markup)
-        return markup
+            before = self.statement(node, before)
+        return before
 
-    def statement(self, node, markup):
+    def statement(self, node, before):
         word, parts = node.head(), node.children[1:]
         if word in ('put', 'esc'):
-            self.value(word, parts[0], markup)
-        elif word == 'if':
-            after = [self.statements(part.children, markup.copy()) for part in parts[1:]]
-            return after[0] if parts[1].children else after[1]
-        elif word == 'for':
-            return self.statements(parts[1:], markup)
-        elif word == 'let':
-            return self.statements(parts[2:], markup)
-        elif word == 'create':
-            return self.statements(parts[3:], markup)
-        elif word == 'template':
-            return self.statements(written(node), markup)
-        return markup
+            return self.value(word, parts[0], before)
+        if word == 'if':
+            return told_apart([one for part in parts[1:] for one in self.statements(part.children, before)])
+        if word == 'for':
+            once, known = self.statements(parts[1:], before), {markup.state() for markup in before}
+            others = [markup for markup in once if markup.state() not in known]
+            return told_apart([*before, *others, *(self.statements(parts[1:], others) if others else [])])
+        if word == 'let':
+            return self.statements(parts[2:], before)
+        if word == 'create':
+            return self.statements(parts[3:], before)
+        if word == 'template':
+            return self.statements(written(node), before)
+        return before
 
-    def value(self, word, node, markup):
+    def value(self, word, node, before):
+        """What a page is after a value that `word` puts, or that is a part of such a one, where there is no word."""
+        if word:
+            self.look(word, node, before)
+        node = meaning(node)
         if node.kind == 'text':
-            markup.feed(node.value.decode('utf-8', 'replace'))
-            return
-        for one in texts_in(self.view, node):
-            self.note(word, one, markup.danger())
+            return [markup.after(node.value.decode('utf-8', 'replace')) for markup in before]
         if node.head() == 'cat':
             for part in node.children[1:]:
-                self.value('', part, markup)
-        elif node.head() == 'pick' and node.children[2].kind == 'text':
-            self.value('', node.children[2], markup)
-        else:
-            markup.put_value()
+                if word == 'esc':
+                    self.look(word, part, before)
+                before = self.value('', part, before)
+            return before
+        if node.head() == 'pick':
+            return told_apart([one for part in node.children[2:] for one in self.value('', part, before)])
+        return [markup.after(None) for markup in before]
+
+    def look(self, word, node, before):
+        """Notes the texts of a value that somebody else chose, where they are put as they are or aren't protected."""
+        danger = next(filter(None, (markup.danger() for markup in before)), None)
+        for one in texts_in(self.view, node):
+            subject = subject_of(one)
+            if word == 'put':
+                self.found.append(Found(one.start, self.view.place, 'markup', subject, RAW % subject))
+            elif danger:
+                self.found.append(Found(one.start, self.view.place, 'escape', subject, UNPROTECTED % danger))
 
 
-    def note(self, word, node, danger):
-        subject = subject_of(node)
-        if word == 'put':
-            self.found.append(Found(node.start, self.view.place, 'markup', subject, RAW % subject))
-        elif word == 'esc' and danger:
-            self.found.append(Found(node.start, self.view.place, 'escape', subject, UNPROTECTED % danger))
+def told_apart(pages):
+    """What was put before a place, each once; of many the first ones."""
+    return list({page.state(): page for page in pages}.values())[:MOST]
 
 
 def subject_of(node):
     if node.head() == 'get':
         return '%s.%s' % (node.children[1].value, node.children[2].value)
-    return node.value if node.kind == 'atom' else node.head()
+    return spelled(node.value) if node.kind == 'atom' else node.head()
 
 
 def texts_in(view, node, seen=frozenset()):
@@ -608,15 +888,16 @@ def redirects(application):
     for view in application.views:
         for step in view.steps:
             if step.node.head() == 'redirect':
-                for node in leads_away(view, step.node.children[1], ''):
+                for node in leads_away(view, step.node.children[1], ['']):
                     subject = subject_of(node)
                     yield Found(node.start, view.place, 'redirect', subject, ELSEWHERE % subject)
 
 
 def leads_away(view, node, before, seen=frozenset()):
-    """The parts of a location that may choose its site; `before` is the text before it."""
-    if OWN_SITE.match(before):
+    """The parts of a location that may choose its site; `before` has the texts that may be before it."""
+    if all(OWN_SITE.match(text) for text in before):
         return []
+    node = meaning(node)
     word, parts = node.head(), node.children[1:]
     if word == 'pick':
         return [one for part in parts[1:] for one in leads_away(view, part, before, seen)]
@@ -624,15 +905,27 @@ def leads_away(view, node, before, seen=frozenset()):
         found = []
         for part in parts:
             found += leads_away(view, part, before, seen)
-            if part.kind == 'text':
-                before += part.value.decode('utf-8', 'replace')
-            elif not texts_in(view, part):
-                before += '0'
+            before = list(dict.fromkeys(text + more for text in before for more in beginnings(part)))[:MOST]
         return found
     if node.kind == 'atom' and node.value in view.values and node.value not in view.params:
         return [one for value in view.values[node.value] if node.value not in seen
                 for one in leads_away(view, value, before, seen | {node.value})]
     return texts_in(view, node)
+
+
+def beginnings(node):
+    """The texts that a part of a location may be, as far as they are known: a reference may be none, and then is
+    nothing, and so may a text be that somebody else chose."""
+    node = meaning(node)
+    word, parts = node.head(), node.children[1:]
+    if node.kind == 'text':
+        return [node.value.decode('utf-8', 'replace')]
+    if word == 'pick':
+        return beginnings(parts[1]) + beginnings(parts[2])
+    if word == 'cat':
+        return [''.join(texts) for texts in itertools.islice(itertools.product(*map(beginnings, parts)), MOST)]
+    kind = meaning(parts[0]).value_kind if word == 'str' else node.value_kind
+    return [''] if kind == 'text' else ['0', ''] if isinstance(kind, tuple) else ['0']
 
 
 def unlinked(application):
@@ -674,4 +967,4 @@ def literals(node):
     return ['\x00']
 
 
-RULES = (writes, unasked, branches, nobody, copies, sums, pages, redirects, unlinked)
+RULES = (writes, unasked, branches, nobody, copies, sums, sums_by_hand, pages, redirects, unlinked)

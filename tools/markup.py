@@ -1,20 +1,38 @@
 """Where in a page of HTML a value is put: enough of HTML's grammar to say where escaping doesn't protect it."""
 import re
 
-ADDRESSES = {'href', 'src', 'action', 'formaction', 'data', 'poster', 'cite', 'background', 'manifest'}
+ADDRESSES = {'href', 'src', 'action', 'formaction', 'data', 'poster', 'cite', 'background', 'manifest', 'ping',
+             'srcset', 'xlink:href'}
 RAW = {'script', 'style'}
 NAME = re.compile(r'[A-Za-z][A-Za-z0-9:-]*')
 SPACE = ' \t\r\n\f'
+# How an address begins whose site and scheme are known, and one that is a script.
+KNOWN = re.compile(r'(?:/[^/\\]|[?#]|\.{1,2}/|(?:https?:)?//[^/?#]+[/?#]|(?:mailto|tel|sms):|[^:/?#\\]+[/?#])', re.I)
+SCRIPT = re.compile(r'(?:javascript|vbscript):|data:text/html', re.I)
+REFRESH = re.compile(r'.*\burl\s*=\s*[\'"]?', re.I | re.S)
+# What is in the place of a value of which nothing is known.
+VALUE = '0'
 
 
 class Markup:
-    """The state after some text of a page: between tags, in a tag, in an attribute's value, or in a script."""
+    """The state after some text of a page: between tags, in a tag, in an attribute's value, or in a script. `said` is
+    what the attribute's value has so far."""
 
-    def __init__(self, mode='text', tag='', attribute='', is_start=False):
-        self.mode, self.tag, self.attribute, self.is_start = mode, tag, attribute, is_start
+    def __init__(self, mode='text', tag='', attribute='', said=''):
+        self.mode, self.tag, self.attribute, self.said = mode, tag, attribute, said
 
-    def copy(self):
-        return Markup(self.mode, self.tag, self.attribute, self.is_start)
+    def state(self):
+        """Two are alike where this is the same."""
+        return self.mode, self.tag, self.attribute, self.said
+
+    def after(self, text):
+        """The state after literal text of the page, or after a value, where `text` is None."""
+        next_one = Markup(*self.state())
+        if text is None:
+            next_one.put_value()
+        else:
+            next_one.feed(text)
+        return next_one
 
     def feed(self, text):
         """Goes on over literal text of the page."""
@@ -26,7 +44,8 @@ class Markup:
         """Goes on over a value, of which nothing is known."""
         if self.mode == 'before':
             self.mode = 'unquoted'
-        self.is_start = False
+        if self.mode in ('unquoted', 'single', 'double'):
+            self.said = (self.said + VALUE)[:80]
 
     def danger(self):
         """Why escaping doesn't protect a text that is put here, or None where it does."""
@@ -37,13 +56,24 @@ class Markup:
             return 'it is inside a tag and outside of an attribute\'s value, so the text may be an attribute of its own'
         if self.mode == 'raw':
             return 'it is inside of <%s>, where HTML reads no escape' % self.tag
-        if self.mode in ('single', 'double'):
-            if self.attribute.startswith('on') or self.attribute == 'style':
-                return 'the value of %s is read as %s after its escapes were read' % (
-                    self.attribute, 'a style' if self.attribute == 'style' else 'a script')
-            if self.attribute in ADDRESSES and self.is_start:
-                return 'the text begins the address in %s, which may be that of another site, or a script by ' \
-                    'javascript:' % self.attribute
+        return self.danger_of_value() if self.mode in ('single', 'double') else None
+
+    def danger_of_value(self):
+        """The same in an attribute's value that has quotes."""
+        if self.attribute.startswith('on') or self.attribute == 'style':
+            return 'the value of %s is read as %s after its escapes were read' % (
+                self.attribute, 'a style' if self.attribute == 'style' else 'a script')
+        if self.attribute == 'srcdoc':
+            return 'the value of srcdoc is read as a page after its escapes were read'
+        said, refresh = self.said, REFRESH.match(self.said)
+        is_refresh = self.tag == 'meta' and self.attribute == 'content' and refresh
+        if self.attribute in ADDRESSES or is_refresh:
+            begun = (said[refresh.end():] if is_refresh else said).strip()
+            if SCRIPT.match(begun):
+                return 'the address in %s is read as a script after its escapes were read' % self.attribute
+            if not KNOWN.match(begun):
+                return 'the address in %s begins with the text, or with no more than a slash before it, so it may be ' \
+                    'that of another site, or a script by javascript:' % self.attribute
         return None
 
     # Each mode reads from a place in the text, and answers the place after what it read.
@@ -77,13 +107,14 @@ class Markup:
     def in_tag(self, text, at):
         if text[at] == '>':
             self.mode = 'raw' if self.tag in RAW else 'text'
+            self.tag, self.attribute, self.said = self.tag if self.mode == 'raw' else '', '', ''
             return at + 1
         found = NAME.match(text, at)
         if found:
-            self.attribute = found.group().lower()
+            self.attribute, self.said = found.group().lower(), ''
             return found.end()
         if text[at] == '=':
-            self.mode, self.is_start = 'before', True
+            self.mode, self.said = 'before', ''
         return at + 1
 
     def in_before(self, text, at):
@@ -97,17 +128,17 @@ class Markup:
 
     def in_unquoted(self, text, at):
         if text[at] in SPACE or text[at] == '>':
-            self.mode = 'tag'
+            self.mode, self.attribute, self.said = 'tag', '', ''
             return at
-        self.is_start = False
+        self.said = (self.said + text[at])[:80]
         return at + 1
 
     def in_quoted(self, text, at, quote):
         end = text.find(quote, at)
-        self.is_start = self.is_start and (end == at or not text[at:].strip())
         if end < 0:
+            self.said = (self.said + text[at:])[:80]
             return len(text)
-        self.mode = 'tag'
+        self.mode, self.attribute, self.said = 'tag', '', ''
         return end + 1
 
     def in_single(self, text, at):
