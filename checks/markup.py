@@ -5,8 +5,8 @@ example, with a long word and several lines stored; and at every page by which a
 Each page has to be valid HTML, by html5lib and by tidy, have a title that no other path has, a language, a charset and
 a viewport, one main part with one heading, a label for each field, a name for each button and link that tells it from
 the others, a way back to the first page and, for nobody, a way in. It has no script and nothing from elsewhere. In
-Chromium, under the policy of content below, the largest page of each kind is no wider than the screen of a phone, and
-the style sheet and a form work.
+Chromium, under the policy of content below, the largest page of each kind is no wider than the screen of a phone, breaks
+no short word there, and its style sheet and a form work.
 
 Words: the program. With --pictures FOLDER it writes a picture of each of these pages there, as a desktop and as a phone
 show it. What needs Debian's python3-html5lib, tidy or chromium is skipped where that isn't installed. Prints each case
@@ -395,6 +395,18 @@ class Address:
 
 
 STYLED = 'getComputedStyle(document.querySelector("header")).display'
+# the short words that are on more than one line
+BROKEN = '''(() => { const found = [], texts = document.createTreeWalker(document.body, NodeFilter.SHOW_TEXT);
+  for (let text = texts.nextNode(); text; text = texts.nextNode()) {
+    if (text.parentElement.closest(".away")) continue;
+    for (const word of text.data.matchAll(/(?<![^\\s])\\p{L}{2,10}(?![^\\s])/gu)) {
+      const range = document.createRange();
+      range.setStart(text, word.index);
+      range.setEnd(text, word.index + word[0].length);
+      if (range.getClientRects().length > 1) found.push(word[0]);
+    }
+  }
+  return found.slice(0, 3).join(", ") })()'''
 
 
 class Watched(browser.Browser):
@@ -450,6 +462,8 @@ def looked_at(site, page, pictures):
         page.go(path)
         width, styled, said = page.run(WIDTH), page.run(STYLED), refusals_of_the_browser(page)
         yield None if width <= PHONE else '%s: %d pixels wide on a phone' % (name, width)
+        broken = page.run(BROKEN)
+        yield None if not broken else '%s: on a phone these words are broken: %s' % (name, broken)
         fits = styled == 'flex' and not said
         yield None if fits else '%s: not under the policy of content: %s' % (name, said or styled)
         if pictures:

@@ -1,14 +1,15 @@
 #!/usr/bin/env python3
 """Looks at the pages that the scripts make, in a headless Chromium at 390 and at 1280 pixels: the bar of tools/dev.py,
-open and closed, its page of a text that is refused, of a first text that is refused and of another schema, its own page,
-the labels of a page, and the page of tools/access_matrix.py. Nothing may be wider than the screen, and each page has a
-title, a language and a way back.
+open and closed, its page of a text that is refused, of a first text that is refused and of another schema, its own
+page, the labels of a page, its page where the program gives no reply, and the page of tools/access_matrix.py. Nothing
+may be wider than the screen, and each page has a title, a language and a way back.
 
-Words: the program, and a folder for pictures of the pages, if they are wanted; `checks/markup.py --pictures` takes those
-of the examples. Prints each case that fails, and ends with a count. Where Chromium isn't installed nothing is done, and
-that is said."""
+Words: the program, and a folder for pictures of the pages, if they are wanted; `checks/markup.py --pictures` takes
+those of the examples. Prints each case that fails, and ends with a count. Where Chromium isn't installed nothing is
+done, and that is said."""
 import contextlib
 import functools
+import glob
 import http.client
 import http.server
 import os
@@ -63,7 +64,7 @@ TOO_WIDE = '''(() => { const found = [];
 class Dev:
     """A run of dev over a folder of its own, a copy of an example."""
 
-    def __init__(self, program, folder, example='calendar', before=None):
+    def __init__(self, program, folder, example='calendar', before=None, options=()):
         self.folder, self.port = folder, free_port()
         self.app = os.path.join(folder, example)
         shutil.copytree(os.path.join(TOP, 'examples', example), self.app)
@@ -71,7 +72,7 @@ class Dev:
             self.change(*before)
         with open(os.path.join(folder, 'told'), 'wb') as told:
             self.run = subprocess.Popen([sys.executable, os.path.join(TOP, 'tools', 'dev.py'), program, example,
-                                         str(self.port)], cwd=folder, stdin=subprocess.DEVNULL, stdout=told, stderr=told)
+                                         str(self.port), *options], cwd=folder, stdin=subprocess.DEVNULL, stdout=told, stderr=told)
         until(lambda: is_listening(self.port) and b'"version": 0' not in self.get('/dev//state'))
 
     def get(self, path):
@@ -101,6 +102,16 @@ class Dev:
         before = self.get('/dev//state')
         self.change(*words)
         until(lambda: self.get('/dev//state') != before)
+
+    def program(self):
+        """The number of the process that serves."""
+        for name in filter(str.isdigit, os.listdir('/proc')):
+            with contextlib.suppress(OSError), open('/proc/%s/stat' % name) as stat, \
+                    open('/proc/%s/cmdline' % name, 'rb') as words:
+                parent = int(stat.read().rpartition(')')[2].split()[1])
+                if parent == self.run.pid and b'serve' in words.read().split(b'\0'):
+                    return int(name)
+        raise browser.Broken('dev serves nothing')
 
     def end(self):
         if self.run.poll() is None:
@@ -192,6 +203,15 @@ def of_dev(program, looker):
         yield from looker.looked(page, 'other-schema', '/', 'Begin with a new store', act=of_bar)
     with dev_over(program, before=('main', '(viewer Person)', '(viewer Persn)')) as dev:
         yield from looker.looked(looker.page(dev.port), 'refused-at-first', '/', 'There is no page yet')
+    with dev_over(program, options=('--db', 'd')) as dev:
+        os.kill(dev.program(), signal.SIGKILL)
+        store = os.path.join(dev.folder, 'd')
+        for path in glob.glob(store + '-*'):
+            os.remove(path)
+        with open(store, 'w', encoding='ascii') as file:
+            file.write('no store')
+        yield from looker.looked(looker.page(dev.port), 'no-reply', '/people', 'No reply', 'store fault',
+                                 'Ask for this page again')
 
 
 @contextlib.contextmanager

@@ -35,7 +35,7 @@ h1 { font-size: 1.3rem; margin: .8rem 0 .2rem } h2 { font-size: 1.1rem; margin: 
 p { margin: .3rem 0; max-width: 60rem }
 .choice { display: none; flex-wrap: wrap; gap: .4rem 1rem; margin: .5rem 0 }
 .choice input, .choice select { font: inherit; max-width: 12rem }
-.room { overflow: auto; max-height: 80vh; border: 1px solid #b9c2da }
+.room { overflow: auto; width: fit-content; max-width: 100%; max-height: max(calc(100vh - 14rem), 20rem); border: 1px solid #b9c2da }
 table { border-collapse: separate; border-spacing: 0 }
 th, td { border-right: 1px solid #e3e7f1; border-bottom: 1px solid #e3e7f1; padding: 0 .2rem; font-weight: normal }
 td { width: 1.6rem; min-width: 1.6rem; height: 1.5rem; text-align: center }

@@ -63,6 +63,11 @@ class Source:
     def __init__(self, path, sessions):
         self.path, self.sessions = path, sessions
 
+    def name(self):
+        """What the application is called on pages: its path, or the folder's name where the path is only `.` or `..`."""
+        last = os.path.basename(os.path.normpath(self.path))
+        return os.path.basename(os.path.realpath(self.path)) if last in ('.', '..') else self.path
+
     def files(self):
         found = [self.sessions] if self.sessions else []
         if not os.path.isdir(self.path):
@@ -436,7 +441,7 @@ def main(words):
             sys.exit('dev: port %d: %s' % (options.port, fault.strerror))
         try:
             tell('for writing, not for serving: http://%s:%d/ shows %s, on this machine alone; Ctrl-C ends it' % (
-                HOST, options.port, options.app))
+                HOST, options.port, dev.source.name()))
             threading.Thread(target=server.serve_forever, daemon=True).start()
             watch(dev)
         finally:

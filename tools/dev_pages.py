@@ -135,7 +135,9 @@ def wrong(dev):
         return ''
     parts = ['<div class="wrong" role="alert"><h2>The text saved at %s is refused</h2>' % escaped(refused.when)]
     if refused.is_schema or not refused.details:
-        parts.append('<p><strong>%s</strong></p>%s' % (escaped(refused.headline), told(refused.details)))
+        line = refused.headline
+        parts.append('<p><strong>%s</strong></p>%s' % (
+            escaped(line[0].upper() + line[1:] if refused.is_schema else line), told(refused.details)))
     else:
         parts.append('%s<p><code>%s</code></p>' % (told(refused.details), escaped(refused.headline)))
     if refused.is_schema:
@@ -173,7 +175,7 @@ def bar(dev, page, token):
 def home(dev, token):
     """Dev's own page, which is also shown for each page as long as no text was right."""
     text = dev.text
-    parts = ['<h1>%s</h1>' % escaped(dev.source.path), wrong(dev)]
+    parts = ['<h1>%s</h1>' % escaped(dev.source.name()), wrong(dev)]
     if text:
         parts.append('<p>Pages are those of the text saved at %s: %s. <a href="/">Open it</a></p>' % (
             escaped(text.when), escaped(text.summary)))
@@ -191,15 +193,17 @@ def home(dev, token):
 <p>This is <code>jac dev</code>, for writing an application and not for serving it: it listens on this machine alone,
 lets whoever reaches it be anybody of the sessions file, and tells which labels are hidden. Its own pages are
 below <code>%s</code>. No view has such a path, since no part of a view's path is empty.</p>''' % PREFIX)
-    return PAGE % (escaped(dev.source.path), STYLE, '\n'.join(parts), RELOAD % (dev.version, 'true'))
+    return PAGE % (escaped(dev.source.name()), STYLE, '\n'.join(parts), RELOAD % (dev.version, 'true'))
 
 
-def broken(dev, fault):
-    """The page where the program gave no reply."""
+def broken(dev, fault, back):
+    """The page where the program gave no reply; `back` is the page to ask for again."""
     words = '\n'.join(part for part in (getattr(fault, 'line', ''), getattr(fault, 'told', '')) if part) or str(fault)
     text = '<h1>No reply</h1>' \
            '<p>The program gave no reply to this request, and is started again with the next one.</p>' \
-           '<pre>%s</pre>' % escaped(words)
+           '<pre>%s</pre>' \
+           '<p><a href="%s">Ask for this page again</a>, or for <a href="/">the first one</a>.</p>' % (
+               escaped(words), escaped(back))
     return PAGE % ('No reply', STYLE, text, RELOAD % (dev.version, 'true'))
 
 

@@ -105,7 +105,8 @@ class Handler(http.server.BaseHTTPRequestHandler):
         try:
             answer = dev.ask(self.as_sent(body))
         except dev.faults as fault:
-            return self.send_text(502, 'text/html', dev_pages.broken(dev, fault))
+            return self.send_text(502, 'text/html', dev_pages.broken(
+                dev, fault, self.target if self.command == 'GET' else '/'))
         if answer is None:
             return self.send_text(503, 'text/html', dev_pages.home(dev, self.token()))
         reply, line, text = answer
