@@ -27,6 +27,7 @@ LIST = os.path.join(CHECKS, 'list.txt')
 TAIL = 40                           # lines of a failed check that are printed
 COUNT = re.compile(r'(?m)^(\d+) passed, (\d+) failed(?:, (\d+) skipped)?$')
 PART = re.compile(r'(?im)^skipped[:,]? (.*)$')
+MOST_SHARE = 4                      # how much longer a check may take on a busy machine
 FAULT = 70                          # the status where there is no program to check
 
 Check = collections.namedtuple('Check', 'name words needs seconds alone about')     # a line of the list
@@ -104,8 +105,9 @@ class Run:
             stdin=subprocess.DEVNULL, stdout=self.log, stderr=subprocess.STDOUT, preexec_fn=os.setpgrp)
 
     def most(self):
-        """The seconds after which it is taken for one that never ends."""
-        return 600 + 10 * self.check.seconds
+        """The seconds after which it is taken for one that never ends; more of them where others use the machine too."""
+        share = max(os.getloadavg()) / processors()
+        return (600 + 10 * self.check.seconds) * min(MOST_SHARE, max(1, share))
 
     def is_over(self):
         ended = os.waitid(os.P_PID, self.process.pid, os.WEXITED | os.WNOHANG | os.WNOWAIT)
