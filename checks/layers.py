@@ -1,8 +1,8 @@
 #!/usr/bin/env python3
-"""Makes the table of docs/LAYERS.md from crates.txt: each storey with its crates, their promises, which crates of the
-repository they use, and their lines of code. Where the page is out of date it says so, and its status is 1. It also
-fails where a crate has no promise, or uses one that doesn't come before it. With the word --write it writes the table
-anew."""
+"""Makes the table of docs/LAYERS.md from crates.txt: each storey with its crates, their promises, and the crates right
+below them. A crate that another one of the same line rests on is left out. Where the page is out of date it says so, and
+its status is 1. It also fails where a crate has no promise, or uses one that doesn't come before it. With the word
+--write it writes the table anew. With the word --lines it prints the lines of code of each crate instead."""
 import sys
 
 sys.dont_write_bytecode = True
@@ -36,21 +36,35 @@ def storeys(text):
     return found, wrong, own
 
 
+def reduced(found, own):
+    """By crate the crates of the repository that it uses, without those that one of these rests on."""
+    uses = {name: [used for used in uses if used in own] for _, crates in found for name, _, uses in crates}
+    rests = {}
+    for name, used in uses.items():
+        rests[name] = set(used).union(*(rests.get(other, ()) for other in used))
+    return {name: [one for one in used if not any(one in rests[other] for other in used)] for name, used in uses.items()}
+
+
 def table(found, own):
-    lines = []
+    lines, direct = [], reduced(found, own)
     for heading, crates in found:
-        lines += ['### ' + heading, '', '| Crate | Promise | Uses | Lines |', '|---|---|---|---|']
+        lines += ['### ' + heading, '', '| Crate | Promise | Rests on |', '|---|---|---|']
         for name, promise, uses in crates:
-            inner = ' '.join(used[len('jac_'):] for used in uses if used in own)
+            inner = ' '.join(used[len('jac_'):] for used in direct[name])
             outer = ' '.join('`%s`' % used for used in uses if used not in own and not used.startswith('sqlite_'))
             cell = ', '.join(filter(None, (inner, outer))) or 'none'
-            lines.append('| `%s` | %s | %s | %d |' % (name, promise, cell, of_crate(name)[0]))
+            lines.append('| `%s` | %s | %s |' % (name, promise, cell))
         lines.append('')
     return '\n'.join(lines).rstrip('\n')
 
 
 def main():
     found, wrong, own = storeys(read('crates.txt'))
+    if '--lines' in sys.argv[1:]:
+        for _, crates in found:
+            for name, _, _ in crates:
+                print('%6d %s' % (of_crate(name)[0], name))
+        return
     wrong += differences(PAGE, {'crates': table(found, own)}, 'checks/layers.py', '--write' in sys.argv[1:])
     for line in wrong:
         print('FAILED ' + line)

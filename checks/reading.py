@@ -20,7 +20,7 @@ from support.pages import TOP, differences, read                            # no
 START = ('jac_app', 'program', 'run')
 PAGE = 'docs/READING.md'
 SOURCES = '## Which notions are public ones'
-# The law that states the promise, with the definitions that READING quotes, and the pages that quote its words.
+# The law that states the promise, the definitions that READING quotes with it, and the pages that quote its words.
 LAWS = 'jac_headline', 'laws'
 HEADLINE = 'headline'
 QUOTED = 'HasReplayedFaithfully', 'IsFaithful', 'IsRightPage'
@@ -44,10 +44,17 @@ def uncommented(text):
 
 
 def first_sentence(text):
-    """That of the first comment, or all of it where none ends."""
+    """That of the first comment, or all of it where none ends: with a capital, and without its full stop."""
     first = re.search(r'(?m)^-- .*(?:\n-- .*)*', text)
     words = re.sub(r'\n-- ', ' ', first.group()[3:]).strip() if first else ''
-    return re.sub(r'(?<=\.) .*$', '', words)
+    words = re.sub(r'(?<=\.) .*$', '', words).rstrip('.')
+    return words[:1].upper() + words[1:]
+
+
+def brief(sentence):
+    """The sentence up to its first colon, where that alone says what a file is about: in four words or more."""
+    before = sentence.partition(': ')[0]
+    return before if len(before.split()) >= 4 else sentence
 
 
 class Item:
@@ -255,14 +262,19 @@ def by_file(seen):
     return reached
 
 
-def definitions_table(start, seen):
-    """The files of specs/ that are reached, each before those that it cites."""
-    reached, lines = by_file(seen), ['| File | What it defines | Definitions |', '|---|---|---|']
+def short(place):
+    """A file of specs/ as the page writes it: `app/Run` for crates/jac_app/specs/Run.antt."""
+    return place.path[len('crates/jac_'):-len('.antt')].replace('/specs/', '/')
+
+
+def definitions_list(start, seen):
+    """The files of specs/ that are reached, each before those that it cites: a line of a list for each."""
+    reached, lines = by_file(seen), []
     for place in in_order(start, seen):
         if isinstance(place, Specs):
             count = sum(1 for name in place.items if name in reached[place])
-            of = '' if count == len(place.items) else ' of %d' % len(place.items)
-            lines.append('| `%s` | %s | %d%s |' % (place.path[len('crates/'):], place.about, count, of))
+            of = '' if count == len(place.items) else '/%d' % len(place.items)
+            lines.append('- %s, %d%s. %s' % (short(place), count, of, brief(place.about)))
     return '\n'.join(lines)
 
 
@@ -296,16 +308,16 @@ def sentence(repository, seen, library):
 
 
 def lost_definitions(repository):
-    """What the page's table of public sources cites by `FILE`, `NAME`, .. and specs/ doesn't have."""
+    """What the page's table of public sources cites by `CRATE/FILE`, `NAME`, .. and specs/ doesn't have."""
     lost = []
     for row in read(PAGE).split(SOURCES)[1].split('\n'):
         place = None
         for word in re.findall(r'`([^`]*)`', row) if row.startswith('|') else ():
-            if '/specs/' in word:
-                crate, module = word.split('/specs/')
-                place = repository.specs.get((crate, module[:-len('.antt')].replace('/', '.')))
+            if '/' in word:
+                crate, _, module = word.partition('/')
+                place = repository.specs.get(('jac_' + crate, module.replace('/', '.')))
                 lost += [word] if place is None else []
-            elif place is not None and '/' not in word and word not in place.items:
+            elif place is not None and word not in place.items:
                 lost.append('%s in %s' % (word, place.path))
     return ['%s: there is no %s' % (PAGE, word) for word in lost]
 
@@ -327,7 +339,7 @@ def law_code(repository, name):
 
 def law_counts(repository):
     """Of each law how many definitions it reaches, as a table, and those that reach more than they may."""
-    lines, wrong = ['| Law | Definitions | Counted as one, without what it reaches |', '|---|---|---|'], []
+    lines, wrong = ['| Law | Definitions | Each counted as one |', '|---|---|---|'], []
     for name, (limit, stops) in LIMITS.items():
         _, seen, _ = repository.walk(LAWS + (name,), stops)
         count = sum(1 for item in seen if isinstance(item.place, Specs))
@@ -344,14 +356,13 @@ def main():
         return print('\n'.join(types_lines(start, seen)))
     if '--beyond' in sys.argv[1:]:
         return print('\n'.join(beyond_lines(repository, seen)))
-    parts = {'definitions': definitions_table(start, seen),
+    parts = {'definitions': definitions_list(start, seen),
              'counts': sentence(repository, seen, library),
-             'headline': law_words(HEADLINE),
              'statement': law_code(repository, HEADLINE)}
     parts['laws'], wrong = law_counts(repository)
     write = '--write' in sys.argv[1:]
     for page in QUOTERS:
-        wrong += differences(page, {'headline': parts['headline']}, 'checks/reading.py', write)
+        wrong += differences(page, {'headline': law_words(HEADLINE)}, 'checks/reading.py', write)
     wrong += lost_definitions(repository) + differences(PAGE, parts, 'checks/reading.py', write)
     for line in wrong:
         print('FAILED ' + line)

@@ -1,6 +1,6 @@
 #!/usr/bin/env python3
-"""Counts what is proved and tested, by crate, and compares the counts with docs/TESTING.md: where the page is out of
-date it says so, and its status is 1. With the word --write it writes the page's tables anew."""
+"""Counts what is proved and tested, by storey of crates.txt, and compares the counts with docs/TESTING.md: where the page
+is out of date it says so, and its status is 1. With the word --write it writes the page's tables anew."""
 import os
 import re
 import sys
@@ -13,8 +13,7 @@ from reading import Specs                                                   # no
 PAGE = 'docs/TESTING.md'
 FUNCTION = re.compile(r'(?m)^\s*(pub )?(?:pub\([a-z]+\) )?(?:const )?fn \w+')
 CLAUSE = re.compile(r'(?m)^\s*(?:requires|ensures)\b')
-COLUMNS = ('lines of code', 'functions', 'public', 'clauses', 'definitions', 'lemmas', 'functions with a proof by hand',
-           'wrong bodies', 'tests')
+COLUMNS = ('lines', 'functions', 'public', 'clauses', 'definitions', 'lemmas', 'proofs by hand', 'wrong bodies', 'tests')
 
 
 def paths(crate, part, end):
@@ -34,6 +33,7 @@ def definitions(found, crate):
 
 
 def of_crate(crate):
+    """The counts of COLUMNS."""
     sources = list(paths(crate, 'src', '.rt'))
     tests = [path for path in sources if '#[test]' in read(path)]
     code = joined(path for path in sources if path not in tests)
@@ -51,11 +51,27 @@ def crates():
     return [line.split(':')[0].split()[0] for line in read('crates.txt').split('\n') if line and not line.startswith('#')]
 
 
-def table(rows):
-    head = '| crate | %s |' % ' | '.join(COLUMNS)
-    lines = [head, '|---' * (len(COLUMNS) + 1) + '|']
-    lines += ['| `%s` | %s |' % (name, ' | '.join(map(str, counts))) for name, counts in rows]
-    return '\n'.join(lines + ['| **all** | %s |' % ' | '.join(str(sum(column)) for column in zip(*(c for _, c in rows)))])
+def storeys():
+    """The storeys of crates.txt, as (heading, crates)."""
+    found = []
+    for line in read('crates.txt').split('\n'):
+        if line.startswith('# ') and line[2:3].isdigit():
+            found.append((line[2:].split(':')[0], []))
+        elif line and not line.startswith('#'):
+            found[-1][1].append(line.split(':')[0].split()[0])
+    return found
+
+
+def summed(counts):
+    return [sum(column) for column in zip(*counts)]
+
+
+def table(counts):
+    """A row for each storey, of the counts by crate, and their sums."""
+    lines = ['| Storey | %s |' % ' | '.join(COLUMNS), '|---' * (len(COLUMNS) + 1) + '|']
+    rows = [(heading, summed(counts[name] for name in names)) for heading, names in storeys()]
+    rows.append(('**all**', summed(counts.values())))
+    return '\n'.join(lines + ['| %s | %s |' % (heading, ' | '.join(map(str, sums))) for heading, sums in rows])
 
 
 def of_cases():
@@ -63,12 +79,12 @@ def of_cases():
     replies = sum(content.count(b'reply ') for name in os.listdir(FOLDER)
                   for _, _, content, _ in parse(read(os.path.join(os.path.relpath(FOLDER, TOP), name)))[1])
     examples = [name for name in os.listdir(os.path.join(TOP, 'examples')) if name.endswith('.app') or '.' not in name]
-    return ('%d worked cases with %d runs of the program and %d replies stand in `checks/cases`, and %d examples with their '
-            'output in `examples`.' % (len(runs), sum(runs), replies, len(examples)))
+    return ('`checks/cases` has %d worked cases, with %d runs of the program and %d replies. `examples` has %d examples, with '
+            'their output.' % (len(runs), sum(runs), replies, len(examples)))
 
 
 def main():
-    tables = {'counts': table([(name, of_crate(name)) for name in crates()]), 'cases': of_cases()}
+    tables = {'counts': table({name: of_crate(name) for name in crates()}), 'cases': of_cases()}
     wrong = differences(PAGE, tables, 'checks/testing.py', '--write' in sys.argv[1:])
     for line in wrong:
         print('FAILED ' + line)
