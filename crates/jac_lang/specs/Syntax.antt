@@ -1,6 +1,6 @@
 -- The language as plain data: what the types of the program are to a reader, with no pointers in
 -- them.
-use Rattle.std.specs.Prelude.{ℕ, ℤ, Bool, true, false, List, [], ◌∷◌, Option}
+use Rattle.std.specs.Prelude.{ℕ, ℤ, Bool, true, false, List, Option}
 use Rattle.jac_lang.specs.declared.expressions.Op.{Op}
 use Rattle.jac_lang.specs.declared.field_kinds.Field.{Field}
 use Rattle.jac_lang.specs.declared.queries.Binder.{Binder}
@@ -92,16 +92,6 @@ pub record Application : Type 0 where
   pub viewer : Option (List ℕ)
   pub models : List Entity
   pub views : List Page
-
--- the parts of a `cat` as a list
-abbrev pub part_list : Expressions → List Expression
-part_list Expressions.none = []
-part_list (Expressions.more e es) = e ∷ part_list es
-
--- the statements of a body as a list
-abbrev pub body_listed : Statements → List Statement
-body_listed Statements.none = []
-body_listed (Statements.more s ss) = s ∷ body_listed ss
 
 -- the expression is `this`
 abbrev pub is_this : Expression → Bool
