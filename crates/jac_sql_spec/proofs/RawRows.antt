@@ -2,10 +2,10 @@
 use Rattle.std.proofs.Common.{◌≡◌, refl, sym, ap, ap₂, subst, ◌∙◌, ℕ, zero, suc, ℤ, pos, Bool, true, false, ◌&&◌, ◌||◌, not, List, [], ◌∷◌, ◌++◌, map, flat_map, length, codes, Option, Some, None, Less, is_eq, int_cmp, Ordering, Equal, Greater, arith}
 use Rattle.std.specs.List.{AllByRecursion}
 use Rattle.std.specs.List.Sorted.{IsPermutation}
-use Rattle.std.specs.Prelude.{◌<ℤ◌, drop}
+use Rattle.std.specs.Prelude.{◌<ℤ◌, drop, ⊤}
 use Rattle.std.specs.Ordering.{ordering_reverse}
 use Rattle.std.proofs.lemmas.Cmp.{int_cmp_total}
-use Rattle.std.proofs.lemmas.List.Sorted.{IsPermutation-map, IsPermutation-sym, length_permutation}
+use Rattle.std.proofs.lemmas.List.Sorted.{IsPermutation-map, IsPermutation-sym, IsPermutation-trans, length_permutation}
 use Rattle.std.proofs.lemmas.Bool.{and_parts}
 use Rattle.sqlite_trees.specs.Tree.{Trees, IsAscending}
 use Rattle.sqlite_trees.proofs.ListLemmas.{all-permutation}
@@ -33,18 +33,15 @@ use Rattle.jac_sql_spec.specs.Facts.{Fact}
 use Rattle.jac_sql_spec.specs.Lines.{Line, encode}
 use Rattle.jac_sql_spec.specs.Stands.{fact, AreDistinct, Holds}
 use Rattle.jac_sql_spec.specs.Tables.{two_tables, strict, meta, rec}
-use Rattle.jac_sql_spec.specs.Testing.{fact_shown, IsLineShown, IsAbove, IsRowidAbove, AreRowidsAbove}
+use Rattle.jac_sql_spec.specs.Testing.{fact_shown, IsLineShown, IsAbove, AreAbove, AreRowidsApart}
 use Rattle.jac_sql_spec.specs.Told.{natural_in, bytes_in_value}
 use Rattle.jac_sql_spec.proofs.Permuted.{apart_permuted}
-use Rattle.jac_sql_spec.proofs.Texts.{over, by, all_text, all_is, rowids_is}
+use Rattle.jac_sql_spec.proofs.Texts.{over, by, by_value, all_text, all_is}
 
--- ---- the three texts
+-- ---- the two texts
 
 abbrev pub key_text : List ℕ
 key_text = codes "SELECT k FROM meta"
-
-abbrev pub rowid_text : List ℕ
-rowid_text = codes "SELECT rowid FROM rec ORDER BY rowid"
 
 pub key_plain : IsPlain (understood (two_tables 0 1 2) key_text) × (reads_listing (two_tables 0 1 2) key_text ≡ false)
 unfolding understood everything
@@ -54,18 +51,11 @@ pub all_plain : IsPlain (understood (two_tables 0 1 2) all_text) × (reads_listi
 unfolding understood everything
 all_plain = ((refl, refl), refl)
 
-pub rowid_plain : IsPlain (understood (two_tables 0 1 2) rowid_text) × (reads_listing (two_tables 0 1 2) rowid_text ≡ false)
-unfolding understood everything
-rowid_plain = ((refl, refl), refl)
-
 abbrev of_keys : Query
 of_keys = over 0 [] (col 1 0 ∷ []) []
 
 abbrev of_all : Query
-of_all = over 1 [] (col 1 1 ∷ col 1 2 ∷ col 1 3 ∷ col 1 4 ∷ col 1 5 ∷ []) (by 1 ∷ by 2 ∷ by 3 ∷ [])
-
-abbrev of_rowids : Query
-of_rowids = over 1 [] (col 1 0 ∷ []) (by 0 ∷ [])
+of_all = over 1 [] (col 1 1 ∷ col 1 2 ∷ col 1 3 ∷ col 1 4 ∷ col 1 5 ∷ col 1 0 ∷ []) (by_value 1 ∷ by 2 ∷ by 3 ∷ [])
 
 key_is : command_of (understood (two_tables 0 1 2) key_text) ≡ Select (record { lets = []; body = of_keys }) (codes "k" ∷ [])
 unfolding understood everything
@@ -76,8 +66,12 @@ key_is = refl
 abbrev pub first_shown : Values → Values
 first_shown r = column r 0 ∷ []
 
-abbrev pub line_shown : Values → Values
+abbrev line_shown : Values → Values
 line_shown r = column r 1 ∷ column r 2 ∷ column r 3 ∷ column r 4 ∷ column r 5 ∷ []
+
+-- a row with its rowid behind it
+abbrev pub whole_shown : Values → Values
+whole_shown r = column r 1 ∷ column r 2 ∷ column r 3 ∷ column r 4 ∷ column r 5 ∷ column r 0 ∷ []
 
 each_match : (rows : List Values) → flat_map (λ r. ([] ∷ r ∷ []) ∷ []) rows ≡ map (λ r. [] ∷ r ∷ []) rows
 each_match [] = refl
@@ -97,19 +91,22 @@ module _ (old new : Sql) (found : List Values) (has : old.now.schema ≡ two_tab
       let a : IsAnswer of_keys db [] found = (reads_as key_text [] old new (two_tables 0 1 2) has _ key_is key_plain.0 key_plain.1 found h).answer Null in
       each_shown of_keys (old.now.trees 0) found first_shown (λ r. refl) a.ordered a.kept (a.distinct ∙ ap (map (output of_keys)) (a.grouped ∙ each_match (old.now.trees 0))) a.same a.shown
 
-  pub all_shown : Shown all_text [] old new found → IsPermutation (map line_shown (old.now.trees 1)) found
+  pub all_shown : Shown all_text [] old new found → IsPermutation (map whole_shown (old.now.trees 1)) found
   all_shown h =
       let db = overlay old.now.trees [] in
       let a : IsAnswer of_all db [] found = (reads_as all_text [] old new (two_tables 0 1 2) has _ all_is all_plain.0 all_plain.1 found h).answer Null in
-      each_shown of_all (old.now.trees 1) found line_shown (λ r. refl) a.ordered a.kept (a.distinct ∙ ap (map (output of_all)) (a.grouped ∙ each_match (old.now.trees 1))) a.same a.shown
-
-  pub rowids_shown : Shown rowid_text [] old new found → IsPermutation (map first_shown (old.now.trees 1)) found
-  rowids_shown h =
-      let db = overlay old.now.trees [] in
-      let a : IsAnswer of_rowids db [] found = (reads_as rowid_text [] old new (two_tables 0 1 2) has _ rowids_is rowid_plain.0 rowid_plain.1 found h).answer Null in
-      each_shown of_rowids (old.now.trees 1) found first_shown (λ r. refl) a.ordered a.kept (a.distinct ∙ ap (map (output of_rowids)) (a.grouped ∙ each_match (old.now.trees 1))) a.same a.shown
+      each_shown of_all (old.now.trees 1) found whole_shown (λ r. refl) a.ordered a.kept (a.distinct ∙ ap (map (output of_all)) (a.grouped ∙ each_match (old.now.trees 1))) a.same a.shown
 
 -- ---- rowids that rise
+
+-- a row shows a rowid above this one
+record IsRowidAbove (last : Option ℤ) (v : Values) (at : ℤ) : Type 0 where
+  shown : column v 0 ≡ Int at
+  above : IsAbove last at
+
+abbrev AreRowidsAbove : Option ℤ → List Values → Type 0
+AreRowidsAbove last [] = ⊤
+AreRowidsAbove last (v ∷ vs) = (at : ℤ) × IsRowidAbove last v at × AreRowidsAbove (Some at) vs
 
 abbrev id_shown : Values → ℤ
 id_shown v = id_in (column v 0)
@@ -135,7 +132,7 @@ rising last [] are = tt
 rising last (v ∷ vs) are =
     (subst (λ (n : ℤ). AllByRecursion (λ x. int_cmp n (id_shown x) ≡ Less) vs) (sym (same_id v are.0 are.1.shown)) (after_first are.0 vs are.2), rising (Some are.0) vs are.2)
 
-pub are_ids : (last : Option ℤ) (vs : List Values) → AreRowidsAbove last vs → AllByRecursion (λ v. column v 0 ≡ Int (id_shown v)) vs
+are_ids : (last : Option ℤ) (vs : List Values) → AreRowidsAbove last vs → AllByRecursion (λ v. column v 0 ≡ Int (id_shown v)) vs
 are_ids last [] are = tt
 are_ids last (v ∷ vs) are = (are.1.shown ∙ ap Int (sym (same_id v are.0 are.1.shown)), are_ids (Some are.0) vs are.2)
 
@@ -206,7 +203,7 @@ map_ascending R f (r ∷ rs) up = (map_all rs up.0, map_ascending R f rs up.1)
     map_all (y ∷ ys) all = (all.0, map_all ys all.1)
 
 -- rows of rec whose rowids rise and that are shown as lines are held as the facts of these
-pub raw_holds : (schema : Schema) (db : Trees) (ids found : List Values) → Keeps Datatype (two_tables 0 1 2) db → IsPermutation (map first_shown (db 1)) ids → AreRowidsAbove None ids
+raw_holds : (schema : Schema) (db : Trees) (ids found : List Values) → Keeps Datatype (two_tables 0 1 2) db → IsPermutation (map first_shown (db 1)) ids → AreRowidsAbove None ids
     → IsPermutation (map line_shown (db 1)) found → AllByRecursion (λ v. IsLineShown v (fact_shown v)) found → Holds (db 1) (map fact_shown found)
 raw_holds schema db ids found typed moved_ids are_rising moved are =
     let rows = db 1 in
@@ -224,6 +221,46 @@ raw_holds schema db ids found typed moved_ids are_rising moved are =
       rowids = map_ascending (λ (a b : Line). is_eq (int_cmp a.at b.at) ≡ false) line_in rows (ascending_mapped (λ a b. is_eq (int_cmp (id_shown a) (id_shown b)) ≡ false) first_shown rows apart);
       same = subst (λ fs. IsPermutation fs (map fact_shown found)) (map-map fact_shown line_shown rows ∙ sym (map-map fact line_in rows)) (IsPermutation-map fact_shown (map line_shown rows) found moved);
     }
+
+-- ---- rows with their rowids
+
+-- what such a row shows of the row, and of its rowid
+abbrev shown_line : Values → Values
+shown_line v = column v 0 ∷ column v 1 ∷ column v 2 ∷ column v 3 ∷ column v 4 ∷ []
+
+abbrev shown_id : Values → Values
+shown_id v = column v 5 ∷ []
+
+abbrev one_value : Value → Values
+one_value v = v ∷ []
+
+abbrev one_id : ℤ → Values
+one_id at = Int at ∷ []
+
+above_shown : (last : Option ℤ) (ids : List ℤ) → AreAbove last ids → AreRowidsAbove last (map one_id ids)
+above_shown last [] are = tt
+above_shown last (at ∷ ids) are = (at, record { shown = refl; above = are.0 }, above_shown (Some at) ids are.1)
+
+lines_shown : (found : List Values) → AllByRecursion (λ v. IsLineShown v (fact_shown v)) found → AllByRecursion (λ v. IsLineShown v (fact_shown v)) (map shown_line found)
+lines_shown [] are = tt
+lines_shown (v ∷ vs) are = let is = are.0 in (record { model = is.model; jid = is.jid; alt = is.alt; jvars = is.jvars; body = is.body }, lines_shown vs are.1)
+
+-- rows of rec that are shown as lines, with rowids of which none comes twice, are held as the facts of these
+pub whole_holds : (db : Trees) (found : List Values) → Keeps Datatype (two_tables 0 1 2) db → IsPermutation (map whole_shown (db 1)) found → AreRowidsApart found → AllByRecursion (λ v. IsLineShown v (fact_shown v)) found
+    → Holds (db 1) (map fact_shown found)
+whole_holds db found typed moved apart are =
+    let rows = db 1 in
+    let lines : IsPermutation (map line_shown rows) (map shown_line found) =
+    subst (λ xs. IsPermutation xs (map shown_line found)) (map-map shown_line whole_shown rows) (IsPermutation-map shown_line (map whole_shown rows) found moved) in
+    let shown : IsPermutation (map first_shown rows) (map shown_id found) =
+    subst (λ xs. IsPermutation xs (map shown_id found)) (map-map shown_id whole_shown rows) (IsPermutation-map shown_id (map whole_shown rows) found moved) in
+    let same : map shown_id found ≡ map one_id apart.rowids =
+    sym (map-map one_value (λ v. column v 5) found) ∙ ap (map one_value) apart.shown ∙ map-map one_value Int apart.rowids in
+    let ids : IsPermutation (map first_shown rows) (map one_id apart.rising) =
+    IsPermutation-trans (map first_shown rows) (map one_id apart.rowids) (map one_id apart.rising) (subst (IsPermutation (map first_shown rows)) same shown)
+    (IsPermutation-map one_id apart.rowids apart.rising apart.moved) in
+    subst (Holds rows) (map-map fact_shown shown_line found)
+    (raw_holds (two_tables 0 1 2) db (map one_id apart.rising) (map shown_line found) typed ids (above_shown None apart.rising apart.are) lines (lines_shown found are))
 
 -- ---- the row of meta
 

@@ -23,14 +23,14 @@ use Rattle.jac_keep.proofs.SoundLaws.{sound_if_good}
 use Rattle.jac_sql_spec.specs.Facts.{Fact, facts}
 use Rattle.jac_sql_spec.specs.Founding.{HasNumber, IsNumberAsked, Tells, Finds}
 use Rattle.jac_sql_spec.specs.Stands.{Stands, Holds}
-use Rattle.jac_sql_spec.specs.Statements.{reading, key_reading, rowid_reading, all_reading}
+use Rattle.jac_sql_spec.specs.Statements.{reading, key_reading, all_reading}
 use Rattle.jac_sql_spec.specs.Tables.{two_tables, meta_row}
 use Rattle.jac_sql_spec.specs.Telling.{IsDatabaseTold, IsAllCommitted}
-use Rattle.jac_sql_spec.specs.Testing.{fact_shown, AreLinesOf, ShowsKey, ShowsRowids, ShowsLines, ShowsStored}
+use Rattle.jac_sql_spec.specs.Testing.{fact_shown, AreLinesOf, ShowsKey, ShowsLines, ShowsStored}
 use Rattle.jac_sql_spec.specs.Told.{chars_in, told, schema_in}
 use Rattle.jac_sql_spec.proofs.Asked.{asks_of}
 use Rattle.jac_sql_spec.proofs.Kept.{told_if_stands}
-use Rattle.jac_sql_spec.proofs.RawRows.{key_text, rowid_text, key_plain, all_plain, rowid_plain, first_shown, line_shown, keys_shown, all_shown, rowids_shown, IsMetaRow, raw_one, raw_holds}
+use Rattle.jac_sql_spec.proofs.RawRows.{key_text, key_plain, all_plain, first_shown, whole_shown, keys_shown, all_shown, IsMetaRow, raw_one, whole_holds}
 use Rattle.jac_sql_spec.proofs.Stays.{clean_if_open, shown_open, shown_same, row_open, row_stays, same_now}
 use Rattle.jac_sql_spec.proofs.Texts.{number_text, all_text, number_plain}
 
@@ -63,16 +63,13 @@ still old new schema same has = ap (λ (d : Database). d.schema) same.now_is ∙
 pub_next : (s : Sql) → s.now ≡ s.committed → IsTrue s.is_open → s.now ≡ s.committed
 pub_next s settled opened = settled
 
--- what is asked in one call of another: the number, the rowids and the rows
-pub stored_shown : {S : Type 0} (g : Ghosts S) (shapes : List ModelShape) (number : ℕ) (old first second new : Held S) → Shuts (state g first) → Shuts (state g second)
-    → (HasCleanDisk (state g first) → IsNumberAsked g old first number) → (HasCleanDisk (state g second) → ShowsRowids g first second) → (HasCleanDisk (state g new) → ShowsLines g shapes number second new)
-    → HasCleanDisk (state g new) → ShowsStored g shapes old new
-stored_shown g shapes number old first second new shuts_first shuts_second asked ids lines clean =
+-- what is asked in one call of another: the number and the rows
+pub stored_shown : {S : Type 0} (g : Ghosts S) (shapes : List ModelShape) (number : ℕ) (old first new : Held S) → Shuts (state g first) → (HasCleanDisk (state g first) → IsNumberAsked g old first number)
+    → (HasCleanDisk (state g new) → ShowsLines g shapes number first new) → HasCleanDisk (state g new) → ShowsStored g shapes old new
+stored_shown g shapes number old first new shuts_first asked lines clean =
     let shown = lines clean in
-    let open_second = shown_open (state g second) (state g new) all_reading [] shown.found shown.shown in
-    let risen = ids (clean_if_open (state g second) shuts_second open_second) in
-    let open_first = shown_open (state g first) (state g second) rowid_reading [] risen.found risen.shown in
-    record { number = number; first = first; second = second; asked = asked (clean_if_open (state g first) shuts_first open_first); ids = risen; lines = shown }
+    let open_first = shown_open (state g first) (state g new) all_reading [] shown.found shown.shown in
+    record { number = number; first = first; asked = asked (clean_if_open (state g first) shuts_first open_first); lines = shown }
 
 -- ---- over the database as it was found
 
@@ -84,9 +81,9 @@ module _ (db : Database) (live : IsDatabase db) (has : db.schema ≡ two_tables 
       → (r : Values) × (db.trees 0 ≡ r ∷ []) × IsMetaRow r
   one_meta found only moved one key = raw_one db.trees found only (rule Datatype) (rule NotNull) moved one key
 
-  fit_stands : (shapes : List ModelShape) (schema : List ℕ) (number : ℕ) (ids found : List Values) → db.trees 0 ≡ meta_row number schema ∷ [] → IsNext number → (lines : AreLinesOf shapes number found) → Holds (db.trees 1) (map fact_shown found)
+  fit_stands : (shapes : List ModelShape) (schema : List ℕ) (number : ℕ) (found : List Values) → db.trees 0 ≡ meta_row number schema ∷ [] → IsNext number → (lines : AreLinesOf shapes number found) → Holds (db.trees 1) (map fact_shown found)
       → IsDatabaseTold (length shapes) db × IsFit shapes (told (length shapes) db)
-  fit_stands shapes schema number ids found meta next lines holds =
+  fit_stands shapes schema number found meta next lines holds =
       let s : State = record { tables = lines.tables; number = number } in
       let st : Stands schema db s = record { schema_is = has; meta = meta; rec = subst (Holds (db.trees 1)) (sym lines.read) holds } in
       let pair = told_if_stands (length shapes) schema db s lines.long st (sound_if_good shapes s (next, lines.good)) lines.spelled in
@@ -154,35 +151,30 @@ module _ {S : Type 0} (g : Ghosts S) (shapes : List ModelShape) (schema : List �
       pub schema_is : schema_in (state g new).now ≡ schema
 
     whole : IsTrue (state g new).is_open → IsWhole
-    unfolding rowid_reading all_reading reading
+    unfolding all_reading reading
     whole opened =
         let s = stored (clean_if_open (state g new) shuts_new opened) in
-        let open_second = shown_open (state g s.second) (state g new) all_text [] s.lines.found s.lines.shown in
-        let open_first = shown_open (state g s.first) (state g s.second) rowid_text [] s.ids.found s.ids.shown in
+        let open_first = shown_open (state g s.first) (state g new) all_text [] s.lines.found s.lines.shown in
         let open_named = row_open (state g named) (state g s.first) number_text [] (Ok s.asked.row) s.asked.asked open_first in
         let h = head None finds open_named in
         let db = (state g start).now in
         let has_named : (state g named).now.schema ≡ two_tables 0 1 2 = ap (λ (d : Database). d.schema) h.named_is ∙ has in
         let one = same_by_row (state g named) (state g s.first) (pub_next (state g named) h.settled_named) has_named open_first s.asked.row s.asked.asked in
         let has_first = still (state g named) (state g s.first) (two_tables 0 1 2) one has_named in
-        let two = same_by_rows (state g s.first) (state g s.second) (pub_next (state g s.first) one.settled) has_first open_second rowid_text s.ids.found rowid_plain.0 s.ids.shown in
-        let has_second = still (state g s.first) (state g s.second) (two_tables 0 1 2) two has_first in
-        let three = same_by_rows (state g s.second) (state g new) (pub_next (state g s.second) two.settled) has_second opened all_text s.lines.found all_plain.0 s.lines.shown in
+        let two = same_by_rows (state g s.first) (state g new) (pub_next (state g s.first) one.settled) has_first opened all_text s.lines.found all_plain.0 s.lines.shown in
         let first_is : (state g s.first).now ≡ db = one.now_is ∙ h.named_is in
-        let second_is : (state g s.second).now ≡ db = two.now_is ∙ first_is in
-        let new_is : (state g new).now ≡ db = three.now_is ∙ second_is in
+        let new_is : (state g new).now ≡ db = two.now_is ∙ first_is in
         let named_meta : (state g named).now.trees 0 ≡ (Int (pos 0) ∷ Null ∷ h.number ∷ h.text ∷ []) ∷ [] = ap (λ (d : Database). d.trees 0) h.named_is ∙ h.meta in
         let again = asks_of (state g named) (state g s.first) h.number h.text s.asked.row has_named named_meta s.asked.asked in
         let number : h.number ≡ Int (pos s.number) = sym (ap (λ (v : Values). column v 0) again) ∙ s.asked.has.stored in
         let text : h.text ≡ Text schema = sym (ap (λ (v : Values). column v 1) h.tells.1) ∙ h.tells.2.0 in
         let meta : db.trees 0 ≡ meta_row s.number schema ∷ [] = h.meta ∙ (λ i. (Int (pos 0) ∷ Null ∷ number i ∷ text i ∷ []) ∷ []) in
         let typed = rule db (live h.opened_start).0 has Datatype in
-        let ids = subst (λ (d : Database). IsPermutation (map first_shown (d.trees 1)) s.ids.found) first_is (rowids_shown (state g s.first) (state g s.second) s.ids.found has_first s.ids.shown) in
-        let lines = subst (λ (d : Database). IsPermutation (map line_shown (d.trees 1)) s.lines.found) second_is (all_shown (state g s.second) (state g new) s.lines.found has_second s.lines.shown) in
-        let holds = raw_holds (two_tables 0 1 2) db.trees s.ids.found s.lines.found typed ids s.ids.are lines s.lines.are.lines in
-        let is = fit_stands db (live h.opened_start).0 has shapes schema s.number s.ids.found s.lines.found meta s.asked.has.in_range s.lines.are holds in
+        let rows = subst (λ (d : Database). IsPermutation (map whole_shown (d.trees 1)) s.lines.found) first_is (all_shown (state g s.first) (state g new) s.lines.found has_first s.lines.shown) in
+        let holds = whole_holds db.trees s.lines.found typed rows s.lines.rowids s.lines.are.lines in
+        let is = fit_stands db (live h.opened_start).0 has shapes schema s.number s.lines.found meta s.asked.has.in_range s.lines.are holds in
         record {
-          settled_new = three.settled;
+          settled_new = two.settled;
           told_is = subst (IsDatabaseTold (length shapes)) (sym new_is) is.0;
           fit = subst (λ (d : Database). IsFit shapes (told (length shapes) d)) (sym new_is) is.1;
           schema_is = ap schema_in new_is ∙ ap (λ rows. chars_in (column (slice_index_or rows 0 []) 3)) meta;

@@ -1,5 +1,5 @@
 -- What is found of the schema that is stored, and what is made where none is found.
-use Rattle.std.specs.Prelude.{◌≡◌, ◌⊎◌, ⊤, ℕ, pos, List, [], Option, Some, None, Result, Ok, Err, IfOk}
+use Rattle.std.specs.Prelude.{◌≡◌, ⊤, ℕ, pos, List, [], Option, Some, None, Result, Ok, Err, IfOk}
 use Rattle.sqlite_trees.specs.declared.store.Store.{Ghosts}
 use Rattle.sqlite_value.specs.Order.{Row as Values, column}
 use Rattle.sqlite_value.specs.declared.value.Value.TheVariants.{Int, Text}
@@ -7,9 +7,7 @@ use Rattle.sqlite.specs.declared.error.Error.{Error}
 use Rattle.sqlite.specs.State.{QueriesRow}
 use Rattle.sqlite.specs.Held.{Held, state}
 use Rattle.jac_rows.specs.Good.{IsNext}
-use Rattle.jac_sql_spec.specs.Tables.{no_tables}
-use Rattle.jac_sql_spec.specs.Statements.{reading, founding}
-use Rattle.jac_sql_spec.specs.Transaction.{Transacts}
+use Rattle.jac_sql_spec.specs.Statements.{reading}
 
 -- a row of the number and the schema, whose number may be a next one
 pub record HasNumber (row : Values) (number : ℕ) : Type 0 where
@@ -39,12 +37,6 @@ pub record Finds {S : Type 0} (g : Ghosts S) (schema : List ℕ) (old new : Held
   pub row : Values
   pub asked : QueriesRow reading [] (state g old) (state g new) (Ok row)
   pub tells : Tells schema row result
-
--- the database had no table, and a new store was made, or given up
-pub record Founds {S : Type 0} (g : Ghosts S) (schema : List ℕ) (old new : Held S)
-    (result : Result (Unit {0}) Error) : Type 0 where
-  pub none : (state g old).now.schema ≡ no_tables
-  pub made : Transacts g (founding schema) old new result
 
 -- nothing but the question was asked
 pub record Asks {S : Type 0} (g : Ghosts S) (old new : Held S) : Type 0 where

@@ -1,5 +1,5 @@
 -- The rows that are read, each from the values that the database showed at its place.
-use Rattle.std.specs.Prelude.{◌≡◌, ℕ, ⊤, List, [], ◌∷◌, Option, Some, None}
+use Rattle.std.specs.Prelude.{◌≡◌, ℕ, ⊤, List, [], ◌∷◌}
 use Rattle.sqlite_value.specs.Order.{Row as Values, column}
 use Rattle.sqlite_value.specs.declared.value.Value.TheVariants.{Blob}
 use Rattle.sqlite_trees.specs.declared.store.Store.{Ghosts}
@@ -52,16 +52,3 @@ pub record AreShown {S : Type 0} (g : Ghosts S) (question : SqlStatement) (Is : 
   pub found : List Values
   pub shown : Shown question.text question.params (state g old) (state g new) found
   pub each : Each Is found rows
-
--- the rows of a model, and of a record; a model that the schema doesn't have has none
-abbrev pub ReadsModel : {S : Type 0} → Ghosts S → ℕ → Option (List Kind) → Held S → Held S
-    → List Row → Type 0
-ReadsModel g model (Some kinds) old new rows = AreShown g (model_reading model)
-    (IsModelRow model kinds) old new rows
-ReadsModel g model None old new rows = rows ≡ []
-
-abbrev pub ReadsRecord : {S : Type 0} → Ghosts S → ℕ → Option (List Kind) → Held S → Held S
-    → List Row → Type 0
-ReadsRecord g id (Some kinds) old new rows = AreShown g (record_reading id) (IsRecordRow id kinds)
-    old new rows
-ReadsRecord g id None old new rows = rows ≡ []

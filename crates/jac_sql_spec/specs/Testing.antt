@@ -1,6 +1,7 @@
 -- What is tested of a store that an earlier run made, and what the test shows.
 use Rattle.std.specs.Prelude.{◌≡◌, ◌<◌, ◌<ℤ◌, ◌⊎◌, ⊤, ℕ, ℤ, pos, Bool, List, [], ◌∷◌, ◌++◌, Option, Some, None, map, length}
 use Rattle.std.specs.List.{AllByRecursion}
+use Rattle.std.specs.List.Sorted.{IsPermutation}
 use Rattle.sqlite_trees.specs.declared.store.Store.{Ghosts}
 use Rattle.sqlite_value.specs.Order.{Row as Values, column}
 use Rattle.sqlite_value.specs.declared.value.Value.TheVariants.{Int, Blob}
@@ -13,7 +14,7 @@ use Rattle.jac_row_codec.specs.Spelling.{guard_bytes, cells_bytes}
 use Rattle.jac_sql_spec.specs.Facts.{Fact, id_bytes, fact_of, facts}
 use Rattle.jac_sql_spec.specs.Founding.{IsNumberAsked}
 use Rattle.jac_sql_spec.specs.Spelled.{IsSpelled}
-use Rattle.jac_sql_spec.specs.Statements.{key_reading, rowid_reading, all_reading}
+use Rattle.jac_sql_spec.specs.Statements.{key_reading, all_reading}
 use Rattle.jac_sql_spec.specs.Told.{natural_in, bytes_in_value, AreSpelled}
 
 -- the fact of a row that the question for all rows shows
@@ -46,15 +47,18 @@ abbrev pub IsAbove : Option ℤ → ℤ → Type 0
 IsAbove None at = ⊤
 IsAbove (Some last) at = last <ℤ at
 
--- a row shows a rowid above this one
-pub record IsRowidAbove (last : Option ℤ) (v : Values) (at : ℤ) : Type 0 where
-  pub shown : column v 0 ≡ Int at
-  pub above : IsAbove last at
+-- the numbers rise, from above this one on
+abbrev pub AreAbove : Option ℤ → List ℤ → Type 0
+AreAbove last [] = ⊤
+AreAbove last (at ∷ more) = IsAbove last at × AreAbove (Some at) more
 
--- the rowids rise, from above this one on
-abbrev pub AreRowidsAbove : Option ℤ → List Values → Type 0
-AreRowidsAbove last [] = ⊤
-AreRowidsAbove last (v ∷ vs) = (at : ℤ) × IsRowidAbove last v at × AreRowidsAbove (Some at) vs
+-- each row shows a rowid, and none comes twice: brought into order they rise
+pub record AreRowidsApart (found : List Values) : Type 0 where
+  pub rowids : List ℤ
+  pub shown : map (λ v. column v 5) found ≡ map Int rowids
+  pub rising : List ℤ
+  pub moved : IsPermutation rowids rising
+  pub are : AreAbove None rising
 
 -- ---- rows
 
@@ -111,23 +115,17 @@ pub record ShowsKey {S : Type 0} (g : Ghosts S) (old new : Held S) : Type 0 wher
   pub shown : Shown key_reading [] (state g old) (state g new) found
   pub is : IsOneKey found
 
-pub record ShowsRowids {S : Type 0} (g : Ghosts S) (old new : Held S) : Type 0 where
-  pub found : List Values
-  pub shown : Shown rowid_reading [] (state g old) (state g new) found
-  pub are : AreRowidsAbove None found
-
 pub record ShowsLines {S : Type 0} (g : Ghosts S) (shapes : List ModelShape) (number : ℕ)
     (old new : Held S) : Type 0 where
   pub found : List Values
   pub shown : Shown all_reading [] (state g old) (state g new) found
+  pub rowids : AreRowidsApart found
   pub are : AreLinesOf shapes number found
 
--- the number, and then the rowids and the rows, which are those of tables of these shapes
+-- the number, and then the rows, which are those of tables of these shapes
 pub record ShowsStored {S : Type 0} (g : Ghosts S) (shapes : List ModelShape) (old new : Held S) :
     Type 0 where
   pub number : ℕ
   pub first : Held S
-  pub second : Held S
   pub asked : IsNumberAsked g old first number
-  pub ids : ShowsRowids g first second
-  pub lines : ShowsLines g shapes number second new
+  pub lines : ShowsLines g shapes number first new

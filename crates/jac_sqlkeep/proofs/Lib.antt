@@ -6,3 +6,5 @@ pub mod Read
 pub mod Reopens
 pub mod Rows
 pub mod Steps
+pub mod Ordered
+pub mod Rowids

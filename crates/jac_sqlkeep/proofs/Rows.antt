@@ -19,20 +19,22 @@ use Rattle.jac_rows.specs.declared.row.Row.{Row}
 use Rattle.jac_row_codec.specs.Faults.{IsIdOf}
 use Rattle.jac_row_codec.specs.Spelling.{guard_bytes}
 use Rattle.jac_keep.specs.Schema.{shapes_by}
+use Rattle.jac_sqlkeep.specs.Alternatives.{AreTaken, ReadsOnWith}
 use Rattle.jac_sql_spec.specs.Reading.{IsRowIn}
 use Rattle.jac_sql_spec.specs.Founding.{IsNumberAsked}
-use Rattle.jac_sql_spec.specs.Testing.{MovesOn, ReadsOn, IsStoredRow, AreLinesOf, ShowsRowids, ShowsLines, ShowsStored}
+use Rattle.jac_sql_spec.specs.Testing.{MovesOn, ReadsOn, IsStoredRow, AreLinesOf, ShowsLines, ShowsStored}
 use Rattle.jac_sql_spec.proofs.Gathered.{Gathered, gathered_start, gathered_next, gathered_end}
 use Rattle.jac_sql_spec.proofs.Reopened.{stored_shown}
 use Rattle.jac_sql_spec.proofs.Sound.{narrow_cells, id_room}
 
--- what a question showed, where the rows passed a test
-pub tested : {V E Q : Type 0} (old new : Sql) (text : List ℕ) (items : V → List Values) (P : List Values → Type 0) → ((found : List Values) → Shown text [] old new found → P found → Q)
-    → (answer : Result V Error) (r : Result (Unit {0}) E) → IfOk answer (λ v. Shown text [] old new (items v)) → IfOk answer (λ v. OnOk r (P (items v))) → OnErr answer (IsErr r) → OnOk r Q
-tested old new text items P whole (Ok v) (Ok done) shown passed failed = whole (items v) shown passed
-tested old new text items P whole (Ok v) (Err e) shown passed failed = tt
-tested old new text items P whole (Err e) (Ok done) shown passed failed = absurd (let f : false ≡ true = failed in cc)
-tested old new text items P whole (Err e) (Err f) shown passed failed = tt
+-- what a question showed, where the rows passed two tests
+pub tested : {V E Q : Type 0} (old new : Sql) (text : List ℕ) (items : V → List Values) (P R : List Values → Type 0) → ((found : List Values) → Shown text [] old new found → P found → R found → Q)
+    → (answer : Result V Error) (r : Result (Unit {0}) E) → IfOk answer (λ v. Shown text [] old new (items v)) → IfOk answer (λ v. OnOk r (P (items v))) → IfOk answer (λ v. OnOk r (R (items v))) → OnErr answer (IsErr r)
+    → OnOk r Q
+tested old new text items P R whole (Ok v) (Ok done) shown passed also failed = whole (items v) shown passed also
+tested old new text items P R whole (Ok v) (Err e) shown passed also failed = tt
+tested old new text items P R whole (Err e) (Ok done) shown passed also failed = absurd (let f : false ≡ true = failed in cc)
+tested old new text items P R whole (Err e) (Err f) shown passed also failed = tt
 
 pub ok_then : {T E : Type 0} (P Q : T → Type 0) (r : Result T E) → IfOk r P → ((t : T) → P t → Q t) → IfOk r Q
 ok_then P Q (Ok t) p then = then t p
@@ -120,20 +122,33 @@ reads_on_is shapes number model id guards v next_model row before end_model end_
 -- ---- the loop
 
 module _ (shapes : List ModelShape) (number : ℕ) (found : List Values) where
-  pub read_start : IsNext number → Gathered shapes number found 0 0 0 []
-  read_start next = gathered_start shapes number found next
+  -- the rows before a place, with what is kept of the alternatives of their last record
+  pub record GatheredWith (at model id : ℕ) (guards : List (List (ℕ × Bool))) (in_order : Bool) : Type 0 where
+    pub all : List (List (ℕ × Bool))
+    pub gathered : Gathered shapes number found at model id all
+    pub kept : AreTaken all guards in_order
 
-  pub read_next : (at model id : ℕ) (guards : List (List (ℕ × Bool))) (v : Values) (next_model next_id : ℕ) (next_guards : List (List (ℕ × Bool))) → at < length found → v ≡ get_or found at v
-      → ReadsOn shapes number model id guards v next_model next_id next_guards → Gathered shapes number found at model id guards → Gathered shapes number found (at + 1) next_model next_id next_guards
-  read_next at = gathered_next shapes number found at
+  pub read_start : (guards : List (List (ℕ × Bool))) (in_order : Bool) → IsNext number → AreTaken [] guards in_order → GatheredWith 0 0 0 guards in_order
+  read_start guards in_order next kept = record { all = []; gathered = gathered_start shapes number found next; kept = kept }
 
-  pub read_end : (at model id : ℕ) (guards : List (List (ℕ × Bool))) → length found ≤ at → Gathered shapes number found at model id guards → AreLinesOf shapes number found
-  read_end at = gathered_end shapes number found at
+  pub read_next : (at model id : ℕ) (guards : List (List (ℕ × Bool))) (in_order : Bool) (v : Values) (next_model next_id : ℕ) (next_guards : List (List (ℕ × Bool))) (also : Bool) → at < length found → v ≡ get_or found at v
+      → ((all : List (List (ℕ × Bool))) → AreTaken all guards in_order → ReadsOnWith shapes number model id all v next_model next_id next_guards also)
+      → GatheredWith at model id guards in_order → GatheredWith (at + 1) next_model next_id next_guards also
+  read_next at model id guards in_order v next_model next_id next_guards also within item on so =
+      let more = on so.all so.kept in
+      record {
+        all = more.next;
+        gathered = gathered_next shapes number found at model id so.all v next_model next_id more.next within item more.read so.gathered;
+        kept = more.kept;
+      }
+
+  pub read_end : (at model id : ℕ) (guards : List (List (ℕ × Bool))) (in_order : Bool) → length found ≤ at → GatheredWith at model id guards in_order → AreLinesOf shapes number found
+  read_end at model id guards in_order behind so = gathered_end shapes number found at model id so.all behind so.gathered
 
 -- ---- the whole store
 
-pub stored_on_ok : {S E : Type 0} (g : Ghosts S) (shapes : List ModelShape) (number : ℕ) (old first second new : Held S) → ((state g first).is_clean ≡ false → (state g first).is_open ≡ false)
-    → ((state g second).is_clean ≡ false → (state g second).is_open ≡ false) → (HasCleanDisk (state g first) → IsNumberAsked g old first number) → (HasCleanDisk (state g second) → ShowsRowids g first second)
-    → (r : Result (Unit {0}) E) → (HasCleanDisk (state g new) → OnOk r (ShowsLines g shapes number second new)) → HasCleanDisk (state g new) → OnOk r (ShowsStored g shapes old new)
-stored_on_ok g shapes number old first second new shuts_first shuts_second asked ids (Ok done) lines clean = stored_shown g shapes number old first second new shuts_first shuts_second asked ids lines clean
-stored_on_ok g shapes number old first second new shuts_first shuts_second asked ids (Err e) lines clean = tt
+pub stored_on_ok : {S E : Type 0} (g : Ghosts S) (shapes : List ModelShape) (number : ℕ) (old first new : Held S) → ((state g first).is_clean ≡ false → (state g first).is_open ≡ false)
+    → (HasCleanDisk (state g first) → IsNumberAsked g old first number)
+    → (r : Result (Unit {0}) E) → (HasCleanDisk (state g new) → OnOk r (ShowsLines g shapes number first new)) → HasCleanDisk (state g new) → OnOk r (ShowsStored g shapes old new)
+stored_on_ok g shapes number old first new shuts_first asked (Ok done) lines clean = stored_shown g shapes number old first new shuts_first asked lines clean
+stored_on_ok g shapes number old first new shuts_first asked (Err e) lines clean = tt

@@ -3,3 +3,4 @@ pub mod Form
 pub mod GoesOn
 pub mod Kept
 pub mod Opening
+pub mod Alternatives

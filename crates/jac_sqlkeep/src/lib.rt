@@ -1,6 +1,7 @@
 //! A keeper over SQLite.
 #![tactic(auto)]
 
+mod alternatives;
 mod cause;
 mod database;
 mod form;
@@ -17,4 +18,4 @@ pub use keeper::SqlKeeper;
 pub use meta::{find_schema, make_tables, read_number, set_number, set_schema, test_key};
 pub use opener::{FileOpener, MemoryOpener, OpenFault, Opener};
 pub use records::{add, read_model, read_record, remove, write_change, write_record};
-pub use stored::{test_rowids, test_rows};
+pub use stored::test_rows;

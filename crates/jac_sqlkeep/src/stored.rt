@@ -1,6 +1,7 @@
 //! A store that an earlier run made: all of it is read and tested before it is told.
-ghost use Rattle.std.specs.Prelude.{◌≡◌, ◌<◌, ◌++◌, ◌∷◌, [], ℕ, List, pos, length, None, true, false, IfOk, IfSome, OnOk, OnErr, IsErr};
+ghost use Rattle.std.specs.Prelude.{◌≡◌, ◌<◌, ◌++◌, ◌∷◌, [], ℕ, Bool, List, pos, length, None, true, false, map, IfOk, OnOk, OnErr, IsErr};
 ghost use Rattle.std.specs.List.{AllByRecursion};
+ghost use Rattle.std.specs.List.Sorted.{IsPermutation};
 ghost use Rattle.sqlite_value.specs.Order.{column};
 ghost use Rattle.sqlite_value.specs.declared.value.Value.TheVariants.{Int};
 ghost use Rattle.sqlite.specs.Held.{state};
@@ -9,26 +10,25 @@ ghost use Rattle.jac_value.specs.Ids.{number_of_id};
 ghost use Rattle.jac_world.specs.World.{IsApart};
 ghost use Rattle.jac_rows.specs.Good.{IsNext};
 ghost use Rattle.jac_keep.specs.Schema.{shapes_by};
+ghost use Rattle.jac_sqlkeep.specs.Alternatives.{AreTaken, MovesOnWith, ReadsOnWith};
 ghost use Rattle.jac_sql_spec.specs.Lasting.{ConnectionLasts, LeavesStoredTables};
-ghost use Rattle.jac_sql_spec.specs.Testing.{IsRowidAbove, AreRowidsAbove, MovesOn, ReadsOn, IsStoredRow, AreLinesOf, ShowsRowids, ShowsLines, ShowsStored};
+ghost use Rattle.jac_sql_spec.specs.Testing.{IsAbove, AreAbove, AreRowidsApart, IsStoredRow, AreLinesOf, ShowsLines, ShowsStored};
 
+use crate::alternatives::Alternatives;
 use crate::cause::{CORRUPT, NO_MEMORY, Unfit};
 use crate::meta::read_number;
 use crate::models::{is_nested, kinds_of};
 use crate::records::{blob_at, row_in};
 use jac_row_codec::decode_id;
 use jac_rows::{Row, Shape};
-use jac_value::{Id, is_narrow_id};
-use jac_world::Guard;
+use jac_value::{Id, Memory, is_narrow_id};
 use sqlite::types::ValueRef;
 use sqlite::{Alter, Connection, Error, Row as Found};
 use std::alloc::Global;
 
-const ROWIDS: &str = "SELECT rowid FROM rec ORDER BY rowid";
+const ALL: &str = "SELECT model, jid, alt, jvars, body, rowid FROM rec ORDER BY +model, jid, alt";
 
-const ALL: &str = "SELECT model, jid, alt, jvars, body FROM rec ORDER BY model, jid, alt";
-
-/// Tests that the number, the rowids and the rows are those of a state of this shape.
+/// Tests that the number and the rows are those of a state of this shape.
 pub fn test_stored<S: Alter>(
     alloc: Global,
     conn: &mut Connection<S>,
@@ -45,68 +45,10 @@ pub fn test_stored<S: Alter>(
         Ok(number) => number,
         Err(error) => return Err(Unfit::Refused(error)),
     };
-    test_rowids(conn)?;
     test_rows(alloc, conn, shape, number)
 }
 
-/// Tests that no rowid comes twice.
-#[tactic(auto, unfolding(jac_sql_spec::specs::Statements::rowid_reading))]
-pub fn test_rowids<S: Alter>(conn: &mut Connection<S>) -> Result<(), Unfit>
-    ensures shown { HasCleanDisk (state S.Store conn.new)
-        → OnOk result (ShowsRowids S.Store conn.old conn.new) }
-    ensures left { LeavesStoredTables (state S.Store conn.old) (state S.Store conn.new) }
-    ensures lasts { ConnectionLasts (state S.Store conn.old) (state S.Store conn.new) }
-    ensures mode { conn.old.in_transaction ≡ false → conn.new.in_transaction ≡ false }
-{
-    let found = conn.query_all(ROWIDS, &[]);
-    rowids_found(found)
-}
-
-fn rowids_found(found: Result<Vec<Found>, Error>) -> Result<(), Unfit>
-    ensures rising { IfOk found (λ found. OnOk result (AreRowidsAbove None found.items)) }
-    ensures none { OnErr found (IsErr result) }
-{
-    match found {
-        Ok(found) => {
-            if are_rising(found.as_slice()) {
-                Ok(())
-            } else {
-                Err(Unfit::Form)
-            }
-        }
-        Err(error) => Err(Unfit::Refused(error)),
-    }
-}
-
-fn are_rising(found: &[Found]) -> bool
-    ensures { result ≡ true → AreRowidsAbove None found.now }
-{
-    let mut last = None;
-    let mut rest = found;
-    'found: while let Some((values, more)) = rest.split_first() {
-        let Some(at) = rowid_above(last, values) else {
-            return false;
-        };
-        last = Some(at);
-        rest = more;
-    }
-    true
-}
-
-// The rowid, where it is above the last one.
-fn rowid_above(last: Option<i64>, values: &Found) -> Option<i64>
-    ensures { IfSome result (IsRowidAbove last values.now) }
-{
-    let Ok(ValueRef::Int(at)) = values.get_ref(0) else {
-        return None;
-    };
-    match last {
-        None => Some(at),
-        Some(last) => { if last < at { Some(at) } else { None } }
-    }
-}
-
-/// Tests that the rows are those of tables of this shape.
+/// Tests that the rows are those of tables of this shape, and that no rowid comes twice.
 #[tactic(auto, unfolding(jac_sql_spec::specs::Statements::all_reading))]
 pub fn test_rows<S: Alter>(
     alloc: Global,
@@ -133,14 +75,84 @@ fn rows_found(
     number: u64,
 ) -> Result<(), Unfit>
     requires { IsNext number }
+    ensures apart { IfOk found (λ found. OnOk result (AreRowidsApart found.items)) }
     ensures are { IfOk found
         (λ found. OnOk result (AreLinesOf (shapes_by shape.now.kinds shape.now.nested) number
         found.items)) }
     ensures none { OnErr found (IsErr result) }
 {
     match found {
-        Ok(found) => read_all(alloc, found.as_slice(), shape, number),
+        Ok(found) => {
+            test_rowids(alloc, found.as_slice())?;
+            read_all(alloc, found.as_slice(), shape, number)
+        }
         Err(error) => Err(Unfit::Refused(error)),
+    }
+}
+
+// Tests that no rowid comes twice.
+fn test_rowids(alloc: Global, found: &[Found]) -> Result<(), Unfit>
+    ensures { OnOk result (AreRowidsApart found.now) }
+{
+    let rowids = rowids_of(alloc, found)?;
+    let rising = in_order(rowids)?;
+    if are_rising(rising.as_slice()) {
+        Ok(())
+    } else {
+        Err(Unfit::Form)
+    }
+}
+
+#[tactic(auto, using(crate::proofs::Rowids::rowids_next, crate::proofs::Rowids::rowids_end))]
+fn rowids_of(alloc: Global, found: &[Found]) -> Result<Vec<i64>, Unfit>
+    ensures { IfOk result (λ rowids. map (λ v. column v 5) found.now ≡ map Int rowids.items) }
+{
+    let mut rowids = Vec::new(alloc);
+    let mut rest = found;
+    'found: while let Some((values, more)) = rest.split_first() {
+        let Ok(ValueRef::Int(at)) = values.get_ref(5) else {
+            return Err(Unfit::Form);
+        };
+        match rowids.push(at) {
+            Ok(()) => {}
+            Err(_) => return Err(Unfit::Refused(NO_MEMORY)),
+        }
+        rest = more;
+    }
+    Ok(rowids)
+}
+
+fn in_order(rowids: Vec<i64>) -> Result<Vec<i64>, Unfit>
+    ensures { IfOk result (λ rising. IsPermutation rowids.items rising.items) }
+{
+    let mut rowids = rowids;
+    match rowids.sort() {
+        Ok(()) => Ok(rowids),
+        Err(_) => Err(Unfit::Refused(NO_MEMORY)),
+    }
+}
+
+fn are_rising(rowids: &[i64]) -> bool
+    ensures { result ≡ true → AreAbove None rowids.now }
+{
+    let mut last = None;
+    let mut rest = rowids;
+    'rowids: while let Some((at, more)) = rest.split_first() {
+        if !is_above(last, *at) {
+            return false;
+        }
+        last = Some(*at);
+        rest = more;
+    }
+    true
+}
+
+fn is_above(last: Option<i64>, at: i64) -> bool
+    ensures { result ≡ true → IsAbove last at }
+{
+    match last {
+        None => true,
+        Some(last) => last < at,
     }
 }
 
@@ -149,7 +161,7 @@ fn rows_found(
 struct Last {
     model: u8,
     id: Id,
-    guards: Vec<Guard>,
+    guards: Alternatives,
 }
 
 #[tactic(auto, using(crate::proofs::Rows::read_start, crate::proofs::Rows::read_next, crate::proofs::Rows::read_end))]
@@ -161,7 +173,7 @@ fn read_all(alloc: Global, found: &[Found], shape: &Shape, number: u64) -> Resul
     let mut last = Last {
         model: 0,
         id: Id(0),
-        guards: Vec::new(alloc),
+        guards: Alternatives::none(alloc),
     };
     'found: for at in 0..found.len() {
         last = match read_on(alloc, shape, number, last, &found[at]) {
@@ -188,13 +200,15 @@ fn read_on(
     last: Last,
     values: &Found,
 ) -> Result<Last, Error>
-    ensures { IfOk result (λ next. ReadsOn (shapes_by shape.now.kinds shape.now.nested) number
-        last.model last.id last.guards.items values.now next.model next.id next.guards.items) }
+    ensures { IfOk result (λ next. (all : List (List (ℕ × Bool)))
+        → AreTaken all last.guards.guards.items last.guards.in_order
+        → ReadsOnWith (shapes_by shape.now.kinds shape.now.nested) number last.model last.id all
+        values.now next.model next.id next.guards.guards.items next.guards.in_order) }
 {
     let model = model_at(values)?;
     let row = stored_row(alloc, shape, number, values, model)?;
     let before = moved(alloc, last, model, row.id)?;
-    one_more(alloc, before, values, row)
+    one_more(before, values, row)
 }
 
 fn model_at(values: &Found) -> Result<u8, Error>
@@ -255,7 +269,9 @@ fn is_numbered(id: Id, number: u64) -> bool
 // were read.
 fn moved(alloc: Global, last: Last, model: u8, id: Id) -> Result<Last, Error>
     ensures { IfOk result (λ before. (before.model ≡ model) × (before.id ≡ id)
-        × MovesOn last.model last.id last.guards.items model id before.guards.items) }
+        × ((all : List (List (ℕ × Bool))) → AreTaken all last.guards.guards.items
+        last.guards.in_order → MovesOnWith last.model last.id all model id
+        before.guards.guards.items before.guards.in_order)) }
 {
     if last.model == model {
         if last.id == id {
@@ -273,21 +289,24 @@ fn moved(alloc: Global, last: Last, model: u8, id: Id) -> Result<Last, Error>
 }
 
 fn new_record(alloc: Global, model: u8, id: Id) -> Last
-    ensures { (result.model ≡ model) × (result.id ≡ id) × (result.guards.items ≡ []) }
+    ensures model { result.model ≡ model }
+    ensures id { result.id ≡ id }
+    ensures guards { AreTaken [] result.guards.guards.items result.guards.in_order }
 {
     Last {
         model,
         id,
-        guards: Vec::new(alloc),
+        guards: Alternatives::none(alloc),
     }
 }
 
 // The row is the next alternative of the record, and apart from those before it.
-fn one_more(alloc: Global, before: Last, values: &Found, row: Row) -> Result<Last, Error>
+fn one_more(before: Last, values: &Found, row: Row) -> Result<Last, Error>
     ensures { IfOk result (λ next. (next.model ≡ before.model) × (next.id ≡ before.id)
-        × (column values.now 2 ≡ Int (pos (length before.guards.items)))
-        × AllByRecursion (λ g. IsApart g row.guard) before.guards.items
-        × (next.guards.items ≡ before.guards.items ++ row.guard ∷ [])) }
+        × ((all : List (List (ℕ × Bool))) → AreTaken all before.guards.guards.items
+        before.guards.in_order → (column values.now 2 ≡ Int (pos (length all)))
+        × AllByRecursion (λ g. IsApart g row.guard) all
+        × AreTaken (all ++ row.guard ∷ []) next.guards.guards.items next.guards.in_order)) }
 {
     let Row {
         id: _,
@@ -298,27 +317,10 @@ fn one_more(alloc: Global, before: Last, values: &Found, row: Row) -> Result<Las
     if alt != before.guards.len() as u64 {
         return Err(CORRUPT);
     }
-    if !are_apart(alloc, before.guards.as_slice(), &guard)? {
-        return Err(CORRUPT);
-    }
     let Last { model, id, guards } = before;
-    let mut guards = guards;
-    guards.push(guard)?;
-    Ok(Last { model, id, guards })
-}
-
-fn are_apart(alloc: Global, guards: &[Guard], guard: &Guard) -> Result<bool, Error>
-    ensures { IfOk result (λ apart. apart ≡ true → AllByRecursion (λ g. IsApart g guard.now)
-        guards.now) }
-{
-    let mut rest = guards;
-    'guards: while let Some((first, more)) = rest.split_first() {
-        match first.meet(alloc, guard) {
-            Ok(None) => {}
-            Ok(Some(_)) => return Ok(false),
-            Err(_) => return Err(NO_MEMORY),
-        }
-        rest = more;
+    match guards.with(guard) {
+        Ok(Some(guards)) => Ok(Last { model, id, guards }),
+        Ok(None) => Err(CORRUPT),
+        Err(Memory) => Err(NO_MEMORY),
     }
-    Ok(true)
 }

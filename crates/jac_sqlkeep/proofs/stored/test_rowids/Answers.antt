@@ -1,12 +1,10 @@
-use Rattle.sqlite.specs.Held.{state}
-use Rattle.jac_sql_spec.proofs.Lasting.{lasts_of, rowids_leave}
-use Rattle.jac_sql_spec.specs.Statements.{rowid_reading}
 use Rattle.jac_sqlkeep.proofs.stored.test_rowids.Goals as goal
 
-pub returns-clause-left : goal.returns-clause-left
-unfolding rowid_reading
-returns-clause-left g c =
-    rowids_leave (state g.S.Store c.args.conn.now) (state g.S.Store c.query_all-found.new.self) (g.met.S.Store.shut_if_dirty c.query_all-found.new.self.store) (λ v. v.items) c.query_all-found.result c.query_all-found.ensures.ok c.query_all-found.ensures.err
-
-pub returns-clause-lasts : goal.returns-clause-lasts
-returns-clause-lasts g c = lasts_of (state g.S.Store c.args.conn.now) (state g.S.Store c.query_all-found.new.self) c.query_all-found.ensures.survives
+pub returns-then-are_rising : goal.returns-then-are_rising
+returns-then-are_rising c = record {
+  rowids = c.in_ok-rowids.rowids.items;
+  shown = c.in_ok-rowids.ensures;
+  rising = c.in_ok-rising.rising.items;
+  moved = c.in_ok-rising.ensures;
+  are = rw c.as_slice.ensures.value at c.are_rising.ensures c.if-are_rising.true;
+}
