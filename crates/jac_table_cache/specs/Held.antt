@@ -1,5 +1,5 @@
 -- The tables that are held over a keeper.
-use Rattle.std.specs.Prelude.{◌≡◌, ◌<◌, ℕ, true, List, length, Option, Some, None, slice_get, IsTrue}
+use Rattle.std.specs.Prelude.{◌≡◌, ◌<◌, ℕ, true, List, [], length, Option, Some, None, slice_get, IsTrue}
 use Rattle.jac_rows.specs.Good.{IsSound}
 use Rattle.jac_rows.specs.Tables.{rows_of, rows_or_none}
 use Rattle.jac_rows.specs.declared.row.Row.{Row}
@@ -11,6 +11,15 @@ use Rattle.jac_keep.specs.declared.table_indexes.TableIndexes.{TableIndexes}
 use Rattle.jac_keep.specs.Indexed.{index_at, IsIndexOf}
 use Rattle.jac_keep.specs.Records.{AreOrdered}
 use Rattle.jac_keep.specs.KeeperSeen.{KeeperSeen}
+
+-- a keeper, and the tables of it that are held
+pub record Cached (K : Type 0) : Type 0 where
+  pub keeper : K
+  pub tables : List (Option (List Row))
+
+-- no table is held
+abbrev pub HoldsNothing : {K : Type 0} → Cached K → Type 0
+HoldsNothing c = c.tables ≡ []
 
 abbrev pub table_or_none : Option (Option (List Row)) → Option (List Row)
 table_or_none None = None

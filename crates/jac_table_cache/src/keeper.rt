@@ -11,31 +11,24 @@ ghost use Rattle.jac_keep.specs.Schema.{IsSchema, IsFit};
 ghost use Rattle.jac_keep.specs.Attaching.{Attaches};
 ghost use Rattle.jac_keep.specs.Reshaping.{widened_state, Reshapes};
 
-use crate::held::HeldTables;
-use crate::places::own_rows;
-use jac_keep::{AttachFault, Change, Keeper, LastPlaces, Place, Stop, Vault, holders, own_near};
+use crate::TableCache;
+use jac_keep::{AttachFault, Change, Keeper, Place, Stop, Vault};
 use jac_rows::{Row, Rows};
-use jac_value::{Id, Txt, Value, id_model};
+use jac_value::{Id, Txt, Value};
 use std::alloc::Global;
 use std::marker::Model;
 
-/// A keeper over another one, seen as that one. It holds each table that was read, and reads the
-/// table and its records there; a change that is applied is made there too.
+/// A keeper over another one, seen as that one: each of its calls is the one of its `TableCache`,
+/// whose clauses also say when a table is held.
 #[derive(Drop)]
 pub struct CachedKeeper<K: Keeper> {
-    keeper: K,
-    tables: HeldTables,
-    places: LastPlaces,
+    cache: TableCache<K>,
 }
 
 impl<K: Keeper> Model for CachedKeeper<K> {
-    ghost use Rattle.jac_table_cache.specs.Held.{AreHeld};
-
     ghost Value = { K };
 
-    ghost view = { λ c. c.keeper };
-
-    ghost invariant = { λ c. AreHeld (K.seen c.keeper) c.tables };
+    ghost view = { λ c. c.cache.keeper };
 }
 
 impl<K: Keeper> CachedKeeper<K> {
@@ -44,9 +37,7 @@ impl<K: Keeper> CachedKeeper<K> {
         ensures { result ≡ keeper }
     {
         CachedKeeper {
-            keeper,
-            tables: HeldTables::none(alloc),
-            places: LastPlaces::none(),
+            cache: TableCache::new(alloc, keeper),
         }
     }
 
@@ -54,7 +45,7 @@ impl<K: Keeper> CachedKeeper<K> {
     pub fn keeper(&self) -> &K
         ensures { result.now ≡ self.now }
     {
-        &self.keeper
+        self.cache.keeper()
     }
 }
 
@@ -64,61 +55,33 @@ impl<K: Keeper> Keeper for CachedKeeper<K> {
     ghost goes = { K.goes };
 
     fn number(&mut self) -> Result<u64, Stop> {
-        self.keeper.number()
+        self.cache.number()
     }
 
     fn rows(&mut self, alloc: Global, model: u8) -> Result<Rows, Stop> {
-        if let Some(rows) = self.tables.find(model) {
-            let rows = rows.copy(alloc)?;
-            return Ok(rows);
-        }
-        let rows = self.keeper.rows(alloc, model)?;
-        let held = rows.copy(alloc)?;
-        self.tables.hold(model, held)?;
-        Ok(rows)
+        self.cache.rows(alloc, model)
     }
 
     fn one(&mut self, alloc: Global, id: Id) -> Result<Rows, Stop> {
-        if let Some(rows) = self.tables.find(id_model(id)) {
-            let rows = own_rows(alloc, rows.as_slice(), id)?;
-            return Ok(rows);
-        }
-        self.keeper.one(alloc, id)
+        self.cache.one(alloc, id)
     }
 
     fn find(&mut self, id: Id) -> Result<Option<Place>, Stop> {
-        match self.tables.find(id_model(id)) {
-            Some(rows) => Ok(Some(self.places.find(rows.as_slice(), id))),
-            None => self.keeper.find(id),
-        }
+        self.cache.find(id)
     }
 
     fn held(&self, id: Id, near: Place) -> Option<&[Row]> {
-        match self.tables.find(id_model(id)) {
-            Some(rows) => Some(own_near(rows.as_slice(), id, near)),
-            None => self.keeper.held(id, near),
-        }
+        self.cache.held(id, near)
     }
 
-    /// It reads the whole table where that isn't held, and holds it then.
     fn find_rows(&mut self, alloc: Global, model: u8) -> Result<bool, Stop> {
-        if self.tables.holds(model) {
-            return Ok(true);
-        }
-        let table = self.keeper.rows(alloc, model)?;
-        self.tables.hold(model, table)?;
-        Ok(self.tables.holds(model))
+        self.cache.find_rows(alloc, model)
     }
 
     fn held_rows(&self, model: u8) -> Option<&[Row]> {
-        match self.tables.find(model) {
-            Some(rows) => Some(rows.as_slice()),
-            None => self.keeper.held_rows(model),
-        }
+        self.cache.held_rows(model)
     }
 
-    /// It reads the whole table where that isn't held, and holds it then. A table that is held is
-    /// asked by an index.
     fn rows_with(
         &mut self,
         alloc: Global,
@@ -126,41 +89,25 @@ impl<K: Keeper> Keeper for CachedKeeper<K> {
         field: u8,
         value: &Value,
     ) -> Result<Rows, Stop> {
-        if let Some(found) = self.tables.find_with(alloc, model, field, value)? {
-            return Ok(found);
-        }
-        let rows = self.keeper.rows(alloc, model)?;
-        let found = holders(alloc, rows.as_slice(), field, value)?;
-        self.tables.hold(model, rows)?;
-        Ok(found)
+        self.cache.rows_with(alloc, model, field, value)
     }
 
     fn apply(&mut self, alloc: Global, change: &Change) -> Result<(), Stop> {
-        match self.keeper.apply(alloc, change) {
-            Ok(()) => {
-                self.tables.alter(alloc, &change.changed);
-                Ok(())
-            }
-            Err(stop) => Err(stop),
-        }
+        self.cache.apply(alloc, change)
     }
 }
 
 impl<K: Vault> Vault for CachedKeeper<K> {
-    /// It holds nothing afterwards.
     fn attach(
         &mut self,
         alloc: Global,
         name: Option<&Txt>,
         schema: &Txt,
     ) -> Result<(), AttachFault> {
-        self.tables.forget_all(alloc);
-        self.keeper.attach(alloc, name, schema)
+        self.cache.attach(alloc, name, schema)
     }
 
-    /// It holds nothing afterwards.
     fn reshape(&mut self, alloc: Global, change: &Change, schema: &Txt) -> Result<(), Stop> {
-        self.tables.forget_all(alloc);
-        self.keeper.reshape(alloc, change, schema)
+        self.cache.reshape(alloc, change, schema)
     }
 }

@@ -2,9 +2,12 @@
 //! too.
 #![tactic(auto)]
 
+mod cache;
 mod held;
 mod indexes;
 mod keeper;
 mod places;
+mod shared;
 
+pub use cache::TableCache;
 pub use keeper::CachedKeeper;

@@ -1,5 +1,5 @@
 use Rattle.jac_table_cache.proofs.HeldLaws.{held_after}
-use Rattle.jac_table_cache.proofs.keeper.CachedKeeperKeeper.apply.Goals as goal
+use Rattle.jac_table_cache.proofs.cache.TableCache.apply.Goals as goal
 
 pub invariant_of-self : goal.invariant_of-self
 invariant_of-self g c =

@@ -1,9 +1,0 @@
-use Rattle.std.proofs.Common.{subst}
-use Rattle.jac_table_cache.specs.Held.{AreHeld}
-use Rattle.jac_table_cache.proofs.HeldLaws.{one_held}
-use Rattle.jac_table_cache.proofs.keeper.CachedKeeperKeeper.held.Goals as goal
-
-pub returns-in-Some : goal.returns-in-Some
-returns-in-Some g c =
-    let are : AreHeld (g.K.Keeper.seen c.args.self.now) c.self.inside.tables = subst (λ k. AreHeld (g.K.Keeper.seen k) c.self.inside.tables) c.self.view_is c.self.invariant in
-    one_held (g.K.Keeper.seen c.args.self.now) c.self.inside.tables c.args.id c.id_model.result c.in-Some.rows.now c.own_near.result.now are c.in-Some.ensures c.id_model.ensures (rw c.as_slice.ensures at c.own_near.ensures)
