@@ -5,7 +5,8 @@ use crate::HostVault;
 use jac_keep::Keeper;
 
 /// A law: over any number of calls a file whose connection is open and that tells goes on telling,
-/// or a fault was counted, by the store or by its disk.
+/// or a count of faults, the store's or its disk's, rose or stands at its end, or the disk isn't
+/// clean after the calls: it returned something else than was written.
 pub fn file_goes_on_telling()
     ensures { (old new : HostSeen) → ⟦<HostVault as Keeper>⟧.goes.holds old new → IsOpenFile old
         → TellsOrFailed old new }
