@@ -35,7 +35,14 @@ pub struct LabelMemo {
 pub struct PolicyMemo {
     pub given: ByGroup,
     pub watchers: BTreeMap<Label, Labels>,
+    /// How many watchers all labels have. It never falls, since watchers stay.
+    links: usize,
+    /// How many labels the remembered answers name, each as often as an answer names it.
+    named: usize,
 }
+
+/// So many watchers may be left over before a memo counts as crowded.
+const SPARE: usize = 1024;
 
 impl PolicyMemo {
     pub fn empty(alloc: Global) -> PolicyMemo
@@ -45,6 +52,8 @@ impl PolicyMemo {
         PolicyMemo {
             given: ByGroup::empty(alloc),
             watchers: BTreeMap::new(alloc),
+            links: 0,
+            named: 0,
         }
     }
 
@@ -79,7 +88,11 @@ impl PolicyMemo {
         ensures depends { OnOk result ((j k : ℕ)
             → depends self.new j k ≡ ((label == j && names known.when k) || depends self.old j k)) }
     {
+        let before = links_of(&self.watchers, known.when.pairs());
         watch_all(&mut self.watchers, alloc, known.when.pairs(), label)?;
+        let made = links_of(&self.watchers, known.when.pairs()).saturating_sub(before);
+        self.links = self.links.saturating_add(made);
+        self.named = self.named.saturating_add(known.when.pairs().len());
         self.given.give(alloc, label, known)
     }
 
@@ -136,7 +149,18 @@ impl PolicyMemo {
         ensures asked { (k : ℕ)
             → is_asked self.new k ≡ (if label == k then false else is_asked self.old k) }
     {
+        let gone = match self.given.get(label) {
+            Some(given) => named_by(given.answers.as_slice()),
+            None => 0,
+        };
+        self.named = self.named.saturating_sub(gone);
         self.given.forget(label);
+    }
+
+    /// Whether most of the watchers are left over from answers that were forgotten. Records that
+    /// are made and deleted for ever leave ever more of them.
+    pub fn is_crowded(&self) -> bool {
+        self.links / 2 > self.named.saturating_add(SPARE)
     }
 
     /// The labels with all that watch them, and all that their answers depend on, again and again;
@@ -200,6 +224,31 @@ fn add_pairs(pairs: &[(Label, bool)], labels: &mut Labels) -> Result<(), Memory>
         labels.add(pair.0)?;
     }
     Ok(())
+}
+
+// How many watchers the labels of these pairs have.
+fn links_of(watchers: &BTreeMap<Label, Labels>, pairs: &[(Label, bool)]) -> usize {
+    let mut links: usize = 0;
+    'pairs: for pair in pairs {
+        links = links.saturating_add(watchers_of(watchers, pair.0));
+    }
+    links
+}
+
+fn watchers_of(watchers: &BTreeMap<Label, Labels>, label: Label) -> usize {
+    match watchers.get(&label) {
+        Some(watchers) => watchers.len(),
+        None => 0,
+    }
+}
+
+// How many labels these answers name.
+fn named_by(answers: &[MemoEntry]) -> usize {
+    let mut named: usize = 0;
+    'answers: for known in answers {
+        named = named.saturating_add(known.when.pairs().len());
+    }
+    named
 }
 
 fn watch_all(

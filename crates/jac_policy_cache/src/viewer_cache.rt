@@ -10,6 +10,9 @@ use jac_value::{Id, Memory};
 use jac_world::{Assignment, Label};
 use std::alloc::Global;
 
+/// So many labels may be stale beyond those that were asked before a cache counts as overgrown.
+const SPARE: usize = 1024;
+
 /// What was settled for somebody: the labels, once there are some, what the policies answered, and
 /// the labels that are stale, since what was answered of them, or of what depends on them, may no
 /// longer be right.
@@ -46,6 +49,12 @@ impl ViewerCache {
         mark_all(&self.answers, affected.as_slice(), &mut self.stale)?;
         forget_all(&mut self.answers, affected.as_slice());
         Ok(())
+    }
+
+    /// Whether to settle anew costs less than to keep this: more labels are stale than were asked,
+    /// or most watchers are left over. A viewer who doesn't come back would have ever more of them.
+    pub fn is_overgrown(&self) -> bool {
+        self.stale.len() > self.answers.len().saturating_add(SPARE) || self.answers.is_crowded()
     }
 }
 

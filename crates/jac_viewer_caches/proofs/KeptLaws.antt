@@ -84,8 +84,12 @@ none_invalidated invalidation all = record {
 }
 
 pub one_invalidated : (invalidation : Invalidation) (all left rest done new : List ViewerEntry) (x y : ViewerEntry) → AreHalfway invalidation all left done
-    → left ≡ rest ++ x ∷ [] → y.viewer ≡ x.viewer → Invalidates invalidation x.viewer x.cache y.cache → new ≡ done ++ y ∷ [] → AreHalfway invalidation all rest new
-one_invalidated invalidation all left rest done new x y half popped same invalidates pushed = record {
+    → left ≡ rest ++ x ∷ [] → y.viewer ≡ x.viewer → Invalidates invalidation x.viewer x.cache y.cache → (new ≡ done ++ y ∷ []) ⊎ (new ≡ done) → AreHalfway invalidation all rest new
+one_invalidated invalidation all left rest done new x y half popped same invalidates (inr dropped) = record {
+  left_of = λ s is. half.left_of s (rw popped (in_front s x rest is));
+  done_of = record { each = λ s is. half.done_of.each s (rw dropped at is) };
+}
+one_invalidated invalidation all left rest done new x y half popped same invalidates (inl pushed) = record {
   left_of = λ s is. half.left_of s (rw popped (in_front s x rest is));
   done_of = record {
     each = λ s is. elim (in_put s y done (rw pushed at is)) [

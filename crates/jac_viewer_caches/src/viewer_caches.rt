@@ -1,4 +1,4 @@
-ghost use Rattle.std.specs.Prelude.{◌≡◌, ◌<◌, ◌⊎◌, ◌++◌, ◌∷◌, [], length, Some, IfOk, IfSome};
+ghost use Rattle.std.specs.Prelude.{◌≡◌, ◌<◌, ◌⊎◌, ◌++◌, ◌∷◌, [], length, Some, IfOk, IfSome, OnOk};
 ghost use Rattle.std.specs.List.{position};
 ghost use Rattle.jac_policy_cache.specs.ViewerCache.{Invalidates};
 ghost use Rattle.jac_policy_cache.specs.Affected.{is_same_viewer};
@@ -68,11 +68,15 @@ impl ViewerCaches {
     /// beyond 2^18 labels that were asked for all of them, others are dropped one by one until
     /// there is room, each time another one by chance: of more viewers who look in turn than there
     /// is room for, some find what they left, where the longest unused one would always be the one
-    /// that looks next. For want of memory the cache itself is dropped.
+    /// that looks next. For want of memory the cache itself is dropped, and so is one that is
+    /// overgrown.
     pub fn put(&mut self, viewer: Option<Id>, cache: ViewerCache)
         ensures { (s : ViewerEntry) → IsOneOf s self.new
             → (s ≡ entry_of viewer cache) ⊎ IsOneOf s self.old }
     {
+        if cache.is_overgrown() {
+            return;
+        }
         self.puts = self.puts.wrapping_add(1);
         put_in(
             &mut self.viewer_caches,
@@ -81,8 +85,8 @@ impl ViewerCaches {
         );
     }
 
-    /// Makes stale for each viewer what the change may have affected. For want of memory all are
-    /// dropped.
+    /// Makes stale for each viewer what the change may have affected. Those that are overgrown then
+    /// are dropped, and for want of memory all are.
     pub fn invalidate(&mut self, alloc: Global, invalidation: &Invalidation)
         ensures { AreInvalidated invalidation.now self.old self.new }
     {
@@ -209,9 +213,20 @@ fn invalidated_all(
     let mut invalidated = Vec::new(alloc);
     'viewer_caches: while let Some(viewer_entry) = left.pop() {
         let viewer_entry = invalidated_one(alloc, viewer_entry, invalidation)?;
-        invalidated.push(viewer_entry)?;
+        keep(&mut invalidated, viewer_entry)?;
     }
     Ok(invalidated)
+}
+
+fn keep(kept: &mut Vec<ViewerEntry>, viewer_entry: ViewerEntry) -> Result<(), Memory>
+    ensures { OnOk result ((kept.new.items ≡ kept.old.items ++ viewer_entry ∷ [])
+        ⊎ (kept.new.items ≡ kept.old.items)) }
+{
+    if viewer_entry.cache.is_overgrown() {
+        return Ok(());
+    }
+    kept.push(viewer_entry)?;
+    Ok(())
 }
 
 fn invalidated_one(
