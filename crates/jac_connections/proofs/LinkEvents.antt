@@ -87,7 +87,7 @@ piece_stands app c served old new la lb lc a b s bytes out audit brought back sa
         let heard = answers n known like in
         record {
           bytes = bytes;
-          some = took.0;
+          is_take = took.0;
           gave = gave_then la lb lc bytes back same took.1;
           heard = subst (λ (x : Bool). IsEventServed spellings.Raw app new (span a b) served (record { count = brought.count; closed = x }) n (Piece c bytes) known out audit) is heard;
         }
@@ -111,12 +111,12 @@ piece_cut app c served losses.Out count old new la lb lc ua ub a b bytes out aud
     let last = raw_torn h.torn in
     inr (inr (
       h.mine,
-      record { bytes = bytes; gave = gave_then la lb lc bytes back same took.1; begun = h.begun; entries = h.entries },
+      record { bytes = bytes; is_take = took.0; gave = gave_then la lb lc bytes back same took.1; begun = h.begun; entries = h.entries },
       record { lost = last.0; count_is = last.1; rose = Rose-widen la.faults lb.faults lc.faults lc.faults later (omega arith) h.fault },
     ))
 piece_cut app c served losses.Audit count old new la lb lc ua ub a b bytes out audit back same later took answers = λ n known like.
     let h = answers n known like in
-    (h.mine, record { bytes = bytes; gave = gave_then la lb lc bytes back same took.1; begun = h.begun; entries = h.entries }, (raw_torn h.torn).0)
+    (h.mine, record { bytes = bytes; is_take = took.0; gave = gave_then la lb lc bytes back same took.1; begun = h.begun; entries = h.entries }, (raw_torn h.torn).0)
 
 -- where the run ends by it, the audit failed
 pub cut_cause : (lost : FailedSink) (count : ℕ) (s : Sinks) → cut_by lost count ≡ Err halts.Write → FaultedAt lost s → HasFaulted s.audit

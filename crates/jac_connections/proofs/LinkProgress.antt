@@ -27,7 +27,7 @@ use Rattle.jac_connections.specs.declared.link.Halt.TheVariants as halts
 use Rattle.jac_serve_events.specs.declared.outputs.FailedSink.{FailedSink}
 use Rattle.jac_serve_events.specs.declared.outputs.FailedSink.TheVariants as losses
 use Rattle.jac_replies.specs.declared.reply.Spelling.TheVariants as spellings
-use Rattle.jac_connections.specs.Link.{pieces_of, events_of, closes_in, is_over, IsLinkServed}
+use Rattle.jac_connections.specs.Link.{pieces_of, events_of, closes_in, is_over, StopsAtClosing, IsLinkServed}
 use Rattle.jac_connections.specs.LinkSteps.{Gave, begun_hub, IsPieceOn, IsPieceBegun, IsTornOn, IsQuiet}
 use Rattle.jac_serve_events.specs.AnswerSpec.{LogEntry, hearing, IsHeardBy, AnswerSpec, IsAnswerSpec}
 use Rattle.jac_serve_events.specs.Log.{replies_on, audited_from, Brings, event_text}
@@ -35,6 +35,7 @@ use Rattle.jac_serve_events.specs.Outside.{Span, span}
 use Rattle.jac_serve_events.specs.Serve.{IsServed, IsLastLost, has_closed, outs_on}
 use Rattle.jac_serve_events.proofs.BringsLemmas.{brings-push, brings-part, brings-begun}
 use Rattle.jac_serve_events.proofs.EntriesLemmas.{entries-still, replies-append}
+use Rattle.jac_connections.proofs.LinkClosing.{begun_whole, stops_next}
 use Rattle.jac_connections.proofs.LostReplies.{audited_on, last_behind}
 use Rattle.jac_serve_events.proofs.OutsideLemmas.{Rose-widen}
 use Rattle.jac_serve_events.proofs.ProgressLemmas.{is_served_by}
@@ -212,6 +213,7 @@ pub record LinkProgress (app : AnswerSpec) (c first : ℕ) (hub : HubSeen) (link
   pub ended : one.ended ≡ closes_in app log
   pub heard : length one.heard ≡ length log
   pub few : IsFew one
+  pub closing : StopsAtClosing pieces log
   pub gave : Gave link (concat pieces)
   pub brings : Brings app no_connections 0 (Begin c ∷ pieces_of c pieces) log text known
   pub entries : app.entries k log
@@ -277,6 +279,7 @@ link_start app lawful c first link k start = record {
   ended = refl;
   heard = refl;
   few = record { whole_ones = λ open_still. refl; few = omega arith };
+  closing = record { takes = tt; last = tt };
   gave = λ told. refl;
   brings = ([], [], [], refl, refl, refl, (refl, refl, refl));
   entries = lawful.none k start;
@@ -335,6 +338,9 @@ module _ (app : AnswerSpec) (lawful : IsAnswerSpec app) (law : IsReading IsTaken
         few =
             few_brought app law place c (with_bytes s.bytes so_far.one) mine
             (record { whole_ones = so_far.few.whole_ones; few = so_far.few.few }) given;
+        closing =
+            stops_next app c so_far.pieces so_far.log so_far.one s.bytes mine so_far.closing so_far.bytes so_far.ended so_far.is_closed_now s.is_take
+            (begun_whole app place c (with_bytes s.bytes so_far.one) mine given);
         gave = gave_on la lb lc so_far.pieces s.bytes back so_far.gave s.gave;
         brings =
             subst (λ (es : List Event). Brings app no_connections 0 es (so_far.log ++ mine) (so_far.text ++ event_text app (Piece c s.bytes) so_far.known mine) later)
@@ -395,7 +401,7 @@ pub link_nearer : (app : AnswerSpec) (lawful : IsAnswerSpec app) (law : IsReadin
 unfolding link_on
 link_nearer app lawful law c first hub new la lb lc a b d count more o au p bu back s piece =
     link_less app c first hub new (span la lb) (span la lc) (span a b) (span a d) count more o au (o ++ p) (au ++ bu) piece.bytes s
-    (link_on app lawful law c first hub la lb lc a b d count o au p bu back s new (record { count = more; closed = false }) piece) refl piece.some
+    (link_on app lawful law c first hub la lb lc a b d count o au p bu back s new (record { count = more; closed = false }) piece) refl piece.is_take.0
 
 -- ---- the end
 
@@ -430,6 +436,7 @@ link_quiet app c first hub la lb lc a b d count closed o au p bu back s quiet = 
   ended = s.ended;
   heard = s.heard;
   few = s.few;
+  closing = s.closing;
   gave = gave_same la lb lc (concat s.pieces) back s.gave quiet.gave;
   brings = s.brings;
   entries = entries-still app a b d s.log s.entries quiet.still;
@@ -463,6 +470,7 @@ module _ (app : AnswerSpec) (c first : ℕ) (hub : HubSeen) (la lb : LinkSeen) (
     ended = λ whole. by_end ended;
     cause = λ part. absurd cc;
     served = is_served_by false app a b (events_of c s.pieces) s.log (brings_end app c (Begin c ∷ pieces_of c s.pieces) no_connections s.known 0 s.log s.text s.brings) s.entries;
+    closing = s.closing;
     few = few_log (length s.one.heard) (length s.log) s.heard s.few.few;
     count = rest_count count first (length s.log) n s.count_is less;
     puts = inl (record { out_text = s.out_text; audit_text = s.audit_text });
@@ -483,6 +491,7 @@ module _ (app : AnswerSpec) (c first : ℕ) (hub : HubSeen) (la lb : LinkSeen) (
     cause = λ part. inl rose;
     served = is_served_by true app a b (events_of c s.pieces) s.log
         (brings-part app (Begin c ∷ pieces_of c s.pieces) (Finish c ∷ []) no_connections s.known 0 s.log s.text s.brings) s.entries;
+    closing = s.closing;
     few = few_log (length s.one.heard) (length s.log) s.heard s.few.few;
     count = rest_count count first (length s.log) n s.count_is less;
     puts = inl (record { out_text = s.out_text; audit_text = s.audit_text });
@@ -499,6 +508,7 @@ module _ (app : AnswerSpec) (c first : ℕ) (hub : HubSeen) (la lb : LinkSeen) (
     cause = λ part. inr refl;
     served = is_served_by true app a b (events_of c s.pieces) s.log
         (brings-part app (Begin c ∷ pieces_of c s.pieces) (Finish c ∷ []) no_connections s.known 0 s.log s.text s.brings) s.entries;
+    closing = s.closing;
     few = few_log (length s.one.heard) (length s.log) s.heard s.few.few;
     count = tt;
     puts = record { out_text = s.out_text; audit_text = s.audit_text };
@@ -520,14 +530,20 @@ module _ (app : AnswerSpec) (lawful : IsAnswerSpec app) (law : IsReading IsTaken
       (ap (λ (es : List Event). Begin c ∷ es) (sym (pieces_split c s.pieces piece.bytes (Finish c ∷ []))))
       (brings-begun app (Begin c ∷ pieces_of c s.pieces) (Finish c ∷ []) (Piece c piece.bytes) no_connections s.known 0 s.log mine s.text s.brings piece.begun)
 
+  lost_begun : AreBegun (hearing app) (place app lawful law c first hub la lb lc a b d count o au p bu back s) c (with_bytes piece.bytes s.one) mine
+  lost_begun =
+      let n = place app lawful law c first hub la lb lc a b d count o au p bu back s in
+      begun_by_some app law n c piece.bytes s.one mine s.is_closed_now
+      (subst (λ (x : Option (Connection Ask)). PieceBegins (hearing app) n c piece.bytes x mine) s.here piece.begun)
+
+  lost_closing : StopsAtClosing (s.pieces ++ piece.bytes ∷ []) (s.log ++ mine)
+  lost_closing = stops_next app c s.pieces s.log s.one piece.bytes mine s.closing s.bytes s.ended s.is_closed_now piece.is_take lost_begun
+
   lost_few : length (s.log ++ mine) ≤ 16777217
   lost_few =
       let n = place app lawful law c first hub la lb lc a b d count o au p bu back s in
-      let begun =
-      begun_by_some app law n c piece.bytes s.one mine s.is_closed_now
-      (subst (λ (x : Option (Connection Ask)). PieceBegins (hearing app) n c piece.bytes x mine) s.here piece.begun) in
       let few =
-      few_begun app law n c (with_bytes piece.bytes s.one) mine (record { whole_ones = s.few.whole_ones; few = s.few.few }) begun in
+      few_begun app law n c (with_bytes piece.bytes s.one) mine (record { whole_ones = s.few.whole_ones; few = s.few.few }) lost_begun in
       let most = few.few in
       let heard = entries_heard app law mine (with_bytes piece.bytes s.one) in
       let before = s.heard in
@@ -553,6 +569,7 @@ module _ (app : AnswerSpec) (lawful : IsAnswerSpec app) (law : IsReading IsTaken
     ended = λ whole. absurd cc;
     cause = λ part. inr refl;
     served = lost_served;
+    closing = lost_closing;
     few = lost_few;
     count = tt;
     puts = lost_behind losses.Audit last;
@@ -571,6 +588,7 @@ module _ (app : AnswerSpec) (lawful : IsAnswerSpec app) (law : IsReading IsTaken
         ended = λ whole. absurd cc;
         cause = λ part. inl rose;
         served = lost_served;
+        closing = lost_closing;
         few = lost_few;
         count =
             let long = length-append s.log mine in

@@ -14,3 +14,6 @@ held_same a b same = λ told. same told ∙ sym (append-nil a.held)
 
 pub some_taken : (count : ℕ) (into : List ℕ) → 0 < count → count ≤ length into → 0 < length (take count into)
 some_taken count into some within = let l = length-take count into in omega (arith, l, some, within)
+
+pub most_taken : (count most : ℕ) (into : List ℕ) → length into ≤ most → length (take count into) ≤ most
+most_taken count most into within = let l = length-take count into in omega (arith, l, within)

@@ -1,6 +1,6 @@
 -- Serving a link: its input is the pieces of one connection, and the replies go back on it as they
 -- are.
-use Rattle.std.specs.Prelude.{◌≡◌, ◌≤◌, ◌||◌, ◌⊎◌, ℕ, ◌+◌, Bool, true, false, IsTrue, IfOk, IsErr, nat_le, Result, Ok, Err, List, [], ◌∷◌, ◌++◌, length}
+use Rattle.std.specs.Prelude.{◌≡◌, ◌≤◌, ◌<◌, ◌||◌, ◌⊎◌, ℕ, ◌+◌, Bool, true, false, IsTrue, IfOk, IsErr, nat_le, Result, Ok, Err, List, [], ◌∷◌, ◌++◌, length}
 use Rattle.std.specs.List.{concat}
 use Rattle.jac_io.specs.Faults.{Rose}
 use Rattle.jac_io.specs.Seen.{SinkSeen}
@@ -15,7 +15,7 @@ use Rattle.jac_connections.specs.declared.link.Halt.TheVariants as halts
 use Rattle.jac_replies.specs.declared.reply.Spelling.TheVariants as spellings
 use Rattle.jac_serve_events.specs.declared.outputs.FailedSink.TheVariants as losses
 use Rattle.jac_serve_events.specs.AnswerSpec.{LogEntry, hearing, AnswerSpec}
-use Rattle.jac_serve_events.specs.Log.{replies_on, audited_from}
+use Rattle.jac_serve_events.specs.Log.{closes_behind, replies_on, audited_from}
 use Rattle.jac_serve_events.specs.Outside.{Span}
 use Rattle.jac_serve_events.specs.Serve.{IsServed, IsLastLost}
 
@@ -41,6 +41,32 @@ closes_in app (entry ∷ log) = may_close (hearing app) entry || closes_in app l
 -- were brought
 abbrev pub is_over : AnswerSpec → List (List ℕ) → List LogEntry → Bool
 is_over app pieces log = closes_in app log || nat_le LIMIT (length (concat pieces))
+
+-- what one take gives: a byte at least, and 4,096 at most
+abbrev pub IsTake : List ℕ → Type 0
+IsTake piece = (0 < length piece) × (length piece ≤ 4096)
+
+-- each piece was given by one take, and none was taken once all bytes that count were there. So
+-- many bytes were there before the first of them
+abbrev pub AreTakes : ℕ → List (List ℕ) → Type 0
+AreTakes before [] = Unit {0}
+AreTakes before (piece ∷ pieces) =
+    (before < LIMIT) × IsTake piece × AreTakes (before + length piece) pieces
+
+-- an entry whose reply says that its connection is closed is the last of these, and of the n-th
+-- event
+abbrev pub ClosesLast : ℕ → List LogEntry → Type 0
+ClosesLast n [] = Unit {0}
+ClosesLast n (entry ∷ log) =
+    (closes_behind entry.subject entry.answer ≡ true → (log ≡ []) × (entry.place ≡ n))
+    × ClosesLast n log
+
+-- nothing was taken and nothing answered behind the closing: the entry that closes the connection
+-- is the last, and the last piece brought it. Nor was a piece taken once all bytes that count were
+-- there
+pub record StopsAtClosing (pieces : List (List ℕ)) (log : List LogEntry) : Type 0 where
+  pub takes : AreTakes 0 pieces
+  pub last : ClosesLast (length pieces) log
 
 -- of these entries, after so many replies, all was put: the reply of each, and its line
 pub record ArePut (first : ℕ) (log : List LogEntry) (out audit : List ℕ) : Type 0 where
@@ -72,6 +98,7 @@ pub record IsLinkServed (app : AnswerSpec) (c first : ℕ) (link : Span LinkSeen
       ⊎ (is_over app pieces log ≡ true)
   pub cause : part ≡ true → Rose link.before.faults link.after.faults ⊎ IsErr result
   pub served : IsServed part app k (events_of c pieces) log
+  pub closing : StopsAtClosing pieces log
   pub few : length log ≤ 16777217
   pub count : IfOk result (λ count. count ≡ length log)
   pub puts : PutsLog first link log result out audit

@@ -1,5 +1,5 @@
 -- The steps of serving a link: takes, puts, and what a piece brings.
-use Rattle.std.specs.Prelude.{◌≡◌, ◌<◌, ◌⊎◌, ℕ, ◌+◌, true, false, IsTrue, IsSome, if◌then◌else◌, Result, Ok, Err, Option, Some, None, List, [], ◌++◌, length}
+use Rattle.std.specs.Prelude.{◌≡◌, ◌⊎◌, ℕ, ◌+◌, true, false, IsTrue, IsSome, if◌then◌else◌, Result, Ok, Err, Option, Some, None, List, [], ◌++◌, length}
 use Rattle.jac_io.specs.Faults.{Rose}
 use Rattle.jac_io.specs.Linked.{LinkSeen}
 use Rattle.jac_serve_events.specs.RunSeen.{RunSeen}
@@ -20,7 +20,7 @@ use Rattle.jac_connections.specs.declared.link.Standing.TheVariants as standings
 use Rattle.jac_connections.specs.declared.wire.TakeError.{TakeError}
 use Rattle.jac_connections.specs.declared.wire.TakeError.TheVariants as misses
 use Rattle.jac_connections.specs.declared.wire.Wire.{Wire}
-use Rattle.jac_connections.specs.Link.{as_sink}
+use Rattle.jac_connections.specs.Link.{as_sink, IsTake}
 use Rattle.jac_replies.specs.declared.reply.Spelling.TheVariants as spellings
 use Rattle.jac_serve_events.specs.declared.outputs.EventOutcome.{EventOutcome}
 use Rattle.jac_serve_events.specs.declared.outputs.WriteFailure.{WriteFailure}
@@ -35,7 +35,7 @@ use Rattle.jac_serve_events.specs.ReplyWriter.{ReplyWriterSeen}
 abbrev pub TakesPiece : Span LinkSeen → Result (Option (List ℕ)) TakeError → Type 0
 TakesPiece link (Ok None) = IsTrue link.after.tells → (link.before.left ≡ [])
     × (link.after.left ≡ [])
-TakesPiece link (Ok (Some bytes)) = (0 < length bytes) × (IsTrue link.after.tells
+TakesPiece link (Ok (Some bytes)) = IsTake bytes × (IsTrue link.after.tells
     → link.before.left ≡ bytes ++ link.after.left)
 TakesPiece link (Err misses.Link) = (IsTrue link.after.tells → link.after.left ≡ link.before.left)
     × Rose link.before.faults link.after.faults
@@ -95,7 +95,7 @@ pub record IsPieceOn (app : AnswerSpec) (c : ℕ) (new : HubSeen) (link : Span L
     (k : Span RunSeen) (served : ℕ) (brought : EventOutcome) (n : ℕ)
     (known : Connections Ask) (out audit : List ℕ) : Type 0 where
   pub bytes : List ℕ
-  pub some : 0 < length bytes
+  pub is_take : IsTake bytes
   pub gave : Gave link bytes
   pub heard : IsEventServed spellings.Raw app new k served brought n (Piece c bytes) known out audit
 
@@ -103,6 +103,7 @@ pub record IsPieceOn (app : AnswerSpec) (c : ℕ) (new : HubSeen) (link : Span L
 pub record IsPieceBegun (app : AnswerSpec) (c : ℕ) (link : Span LinkSeen) (k : Span RunSeen) (n : ℕ)
     (known : Connections Ask) (mine : List LogEntry) : Type 0 where
   pub bytes : List ℕ
+  pub is_take : IsTake bytes
   pub gave : Gave link bytes
   pub begun : IsBegunBy (hearing app) n (Piece c bytes) known mine
   pub entries : app.entries k mine
