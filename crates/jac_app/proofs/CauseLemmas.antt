@@ -12,6 +12,7 @@ use Rattle.jac_command_base.specs.declared.exit_reason.ExitReason.TheVariants as
 use Rattle.jac_cli.specs.declared.role.Role.TheVariants as roles
 use Rattle.jac_command_base.specs.declared.status.Status.{Status}
 use Rattle.jac_command_base.specs.declared.status.Status.TheVariants as statuses
+use Rattle.jac_serve_events.specs.RunSeen.{RunCounts}
 use Rattle.jac_serve_events.specs.Script.{script_of}
 use Rattle.jac_serve_events.specs.Outside.{Span, span, AWriteFailed}
 use Rattle.jac_cli.specs.Words.{command_of}
@@ -48,7 +49,7 @@ same_exit_reason x y e = cc
 pub none_there : IsTrue false → ⊥
 none_there is = cc
 
-module _ {L : Type 0} (line : L → LinkSeen) (seen : Sight) (door : Span (DoorSeen L)) (splits : Span ℕ) (words : List (List ℕ)) where
+module _ {L : Type 0} (line : L → LinkSeen) (seen : Sight) (door : Span (DoorSeen L)) (counts : Span RunCounts) (words : List (List ℕ)) where
   -- the line of a status was put, or that put failed
   cause_of_closing : (sink : Span SinkSeen) → (Rose sink.before.faults sink.after.faults → Rose seen.out.before.faults seen.out.after.faults)
       → (line : List ℕ) (status : Status) (put : List ℕ) (answer : Status)
@@ -76,7 +77,7 @@ module _ {L : Type 0} (line : L → LinkSeen) (seen : Sight) (door : Span (DoorS
   -- the cause of an ending after the files
   cause_of_serving : (command : Command) (app : Application) (sessions : List Session) (events out audit : List ℕ) (exit_reason : ExitReason)
       → (HasApplication seen command app → Sources seen command app) → command_of words ≡ Some command → IsOpened seen command app sessions events
-      → EndsServing (sinks_of seen) command app sessions (held_of seen splits) (script_of events) (Err exit_reason) out audit → ComesFor seen door words (status_of exit_reason)
+      → EndsServing (sinks_of seen) command app sessions (held_of seen counts) (script_of events) (Err exit_reason) out audit → ComesFor seen door words (status_of exit_reason)
   cause_of_serving command app sessions events out audit exits.WriteFault source is opened (inl h) = inr h.0
   cause_of_serving command app sessions events out audit exits.WriteFault source is opened (inr h) = puts_torn_failed _ _ _ (sinks_of seen) out audit h.1.ends
   cause_of_serving command app sessions events out audit exits.Memory source is opened h = tt
@@ -116,7 +117,7 @@ module _ {L : Type 0} (line : L → LinkSeen) (seen : Sight) (door : Span (DoorS
 
   cause_of_tallying : (n : ℕ) (app : Application) (audit : List ℕ) (exit_reason : ExitReason)
       → command_of words ≡ Some (commands.Demo n) → IsApplication calendar_text app
-      → (◌≡◌ {A = Result Summary ExitReason} (Err exit_reason) (Err exits.WriteFault) → AWriteFailed (sinks_of seen)) → EndsTallying app (held_of seen splits) n (Err exit_reason) audit
+      → (◌≡◌ {A = Result Summary ExitReason} (Err exit_reason) (Err exits.WriteFault) → AWriteFailed (sinks_of seen)) → EndsTallying app (held_of seen counts) n (Err exit_reason) audit
       → ComesFor seen door words (status_of exit_reason)
   cause_of_tallying n app audit exits.WriteFault is calendar rose h = rose refl
   cause_of_tallying n app audit exits.Memory is calendar rose h = tt
@@ -134,14 +135,14 @@ module _ {L : Type 0} (line : L → LinkSeen) (seen : Sight) (door : Span (DoorS
 
   cause_of_told : (n : ℕ) (app : Application) (ended : Result Summary ExitReason) (out audit : List ℕ) (exit_reason : ExitReason)
       → command_of words ≡ Some (commands.Demo n) → IsApplication calendar_text app
-      → EndsTallying app (held_of seen splits) n ended audit → (ended ≡ Err exits.WriteFault → AWriteFailed (sinks_of seen)) → PutsSummary seen.out ended (Err exit_reason) out
+      → EndsTallying app (held_of seen counts) n ended audit → (ended ≡ Err exits.WriteFault → AWriteFailed (sinks_of seen)) → PutsSummary seen.out ended (Err exit_reason) out
       → ComesFor seen door words (status_of exit_reason)
   cause_of_told n app (Ok summary) out audit exit_reason is calendar ends rose told = cause_of_text (summary_line summary) out exit_reason told
   cause_of_told n app (Err fault) out audit exit_reason is calendar ends rose told =
       subst (λ (e : ExitReason). ComesFor seen door words (status_of e)) (sym (same_exit_reason exit_reason fault told.0)) (cause_of_tallying n app audit fault is calendar rose ends)
 
   cause_of_counting : (n : ℕ) (app : Application) (out audit : List ℕ) (exit_reason : ExitReason)
-      → command_of words ≡ Some (commands.Demo n) → IsApplication calendar_text app → EndsCounting (sinks_of seen) app (held_of seen splits) n (Err exit_reason) out audit → ComesFor seen door words (status_of exit_reason)
+      → command_of words ≡ Some (commands.Demo n) → IsApplication calendar_text app → EndsCounting (sinks_of seen) app (held_of seen counts) n (Err exit_reason) out audit → ComesFor seen door words (status_of exit_reason)
   cause_of_counting n app out audit exit_reason is calendar (inl h) =
       subst (λ (e : ExitReason). ComesFor seen door words (status_of e)) (sym (same_exit_reason exit_reason exits.WriteFault h.fault)) (inr h.rose)
   cause_of_counting n app out audit exit_reason is calendar (inr h) =
@@ -167,7 +168,7 @@ module _ {L : Type 0} (line : L → LinkSeen) (seen : Sight) (door : Span (DoorS
   -- the cause of an ending after the audit's aim, where a door is served
   cause_of_aimed : (serving : ServeArgs) (app : Application) (sessions : List Session) (out audit : List ℕ) (exit_reason : ExitReason)
       → command_of words ≡ Some (commands.Serve serving) → HasApplication seen (commands.Serve serving) app
-      → EndsAimed line (sinks_of seen) app sessions serving door (held_of seen splits) (Err exit_reason) out audit → ComesFor seen door words (status_of exit_reason)
+      → EndsAimed line (sinks_of seen) app sessions serving door (held_of seen counts) (Err exit_reason) out audit → ComesFor seen door words (status_of exit_reason)
   cause_of_aimed serving app sessions out audit exits.WriteFault is had (inl h) = inr h.0
   cause_of_aimed serving app sessions out audit exits.WriteFault is had (inr h) = a_connection_failed line _ (sinks_of seen) _ _ _ out audit h.1.ends.ends
   cause_of_aimed serving app sessions out audit exits.Memory is had h = tt
@@ -245,7 +246,7 @@ module _ {L : Type 0} (line : L → LinkSeen) (seen : Sight) (door : Span (DoorS
   cause_of_upgrading upgrading old new put exit_reason is had next (inr h) = cause_of_moving (commands.Upgrade upgrading) old new put exit_reason is had h.1
 
   cause_of_exit_reason : (command : Command) (out audit : List ℕ) (exit_reason : ExitReason)
-      → command_of words ≡ Some command → Ends line seen door splits command (Err exit_reason) out audit → ComesFor seen door words (status_of exit_reason)
+      → command_of words ≡ Some command → Ends line seen door counts command (Err exit_reason) out audit → ComesFor seen door words (status_of exit_reason)
   cause_of_exit_reason (commands.Check app) out audit exit_reason is (inl h, uncalled, unsplit) = cause_of_opening (commands.Check app) exit_reason (λ bytes read. read) (λ there bytes read. absurd (none_there there)) is h.0
   cause_of_exit_reason (commands.Check app) out audit exit_reason is (inr h, uncalled, unsplit) = cause_of_text (checked_text h.app) out exit_reason h.text
   cause_of_exit_reason (commands.Replay replay) out audit exit_reason is (inl h, uncalled) = cause_of_opening (commands.Replay replay) exit_reason (λ bytes read. read) (λ there bytes read. absurd (none_there there)) is h.0.0
@@ -267,26 +268,26 @@ module _ {L : Type 0} (line : L → LinkSeen) (seen : Sight) (door : Span (DoorS
   cause_of_exit_reason (commands.Upgrade upgrading) out audit exit_reason is (inr h, uncalled) = cause_of_upgrading upgrading h.old h.new out exit_reason is h.application h.next h.ends
 
 -- and where the line of the status was put after the steps
-module _ {L : Type 0} (line : L → LinkSeen) (seen : Sight) (door : Span (DoorSeen L)) (splits : Span ℕ) (words : List (List ℕ)) where
+module _ {L : Type 0} (line : L → LinkSeen) (seen : Sight) (door : Span (DoorSeen L)) (counts : Span RunCounts) (words : List (List ℕ)) where
   cause_of_finish : (standing : SinkSeen) → seen.out.before.faults ≤ standing.faults → standing.faults ≤ seen.out.after.faults
       → (command : Command) (out audit : List ℕ) (ended : Result (Unit {0}) ExitReason) (last : List ℕ) (answer : Status)
-      → command_of words ≡ Some command → Ends line (standing_at seen standing) door splits command ended out audit
+      → command_of words ≡ Some command → Ends line (standing_at seen standing) door counts command ended out audit
       → Finishes (span standing seen.out.after) command ended last answer → ComesFor seen door words answer
   cause_of_finish standing earlier later command out audit (Ok done) last answer is ends h = subst (λ (s : Status). ComesFor seen door words s) (sym h.1) (command, is)
   cause_of_finish standing earlier later command out audit (Err exit_reason) last answer is ends h =
-      cause_of_closing line seen door splits words (span standing seen.out.after) (λ rose. Rose-widen _ _ _ _ earlier (omega arith) rose)
+      cause_of_closing line seen door counts words (span standing seen.out.after) (λ rose. Rose-widen _ _ _ _ earlier (omega arith) rose)
       (fault_line command exit_reason) (status_of exit_reason) last answer
       (comes_later (standing_at seen standing) seen.out.after later door words (status_of exit_reason)
-      (cause_of_exit_reason line (standing_at seen standing) door splits words command out audit exit_reason is ends)) h
+      (cause_of_exit_reason line (standing_at seen standing) door counts words command out audit exit_reason is ends)) h
 
   -- each status comes for its cause
-  pub comes_for : (answer : Status) (out audit : List ℕ) → Runs line seen door splits words answer out audit → ComesFor seen door words answer
+  pub comes_for : (answer : Status) (out audit : List ℕ) → Runs line seen door counts words answer out audit → ComesFor seen door words answer
   comes_for answer out audit (inl r) =
       cause_of_finish r.standing r.earlier r.later r.command r.served audit r.ended r.last answer r.is_command r.ends r.finishes
   comes_for answer out audit (inr (inl r)) =
-      cause_of_closing line seen door splits words seen.out (λ rose. rose) usage_line statuses.Usage out answer r.no_command r.closes
+      cause_of_closing line seen door counts words seen.out (λ rose. rose) usage_line statuses.Usage out answer r.no_command r.closes
   comes_for answer out audit (inr (inr r)) =
-      cause_of_closing line seen door splits words seen.out (λ rose. rose) _ statuses.Memory out answer tt r.closes
+      cause_of_closing line seen door counts words seen.out (λ rose. rose) _ statuses.Memory out answer tt r.closes
 
 -- what is stored is known to have another schema
 not_other : (stored wanted : List ℕ) (schema : Option (List ℕ)) → schema ≡ Some stored → (schema ≡ None) ⊎ (schema ≡ Some wanted) → ¬ (stored ≡ wanted) → ⊥

@@ -14,6 +14,7 @@ use Rattle.jac_cli.specs.declared.role.Role.TheVariants as roles
 use Rattle.jac_app.specs.declared.summary.Summary.{Summary}
 use Rattle.jac_command_base.specs.declared.status.Status.{Status}
 use Rattle.jac_command_base.specs.declared.status.Status.TheVariants as statuses
+use Rattle.jac_serve_events.specs.RunSeen.{RunCounts}
 use Rattle.jac_serve_events.specs.Script.{script_of}
 use Rattle.jac_app_load.specs.Application.{IsApplication}
 use Rattle.jac_app_load.specs.Refusal.{IsRefusedBy}
@@ -112,24 +113,24 @@ can_open_standing seen standing later command app can = record {
 }
 
 -- a command of which no put fails has a status that is done, want of memory or that of an ending of its steps
-module _ {L : Type 0} (line : L → LinkSeen) (seen : Sight) (door : Span (DoorSeen L)) (splits : Span ℕ) (words : List (List ℕ)) (command : Command) (is_command : command_of words ≡ Some command)
+module _ {L : Type 0} (line : L → LinkSeen) (seen : Sight) (door : Span (DoorSeen L)) (counts : Span RunCounts) (words : List (List ℕ)) (command : Command) (is_command : command_of words ≡ Some command)
     (no_write_fault : AWriteFailed (sinks_of seen) → ⊥) (Is : Status → Type 0)
     (done : (standing : SinkSeen) → standing.faults ≤ seen.out.after.faults
-    → (out audit : List ℕ) (finished : Unit {0}) → Ends line (standing_at seen standing) door splits command (Ok finished) out audit → Is statuses.Done) (memory : Is statuses.Memory)
+    → (out audit : List ℕ) (finished : Unit {0}) → Ends line (standing_at seen standing) door counts command (Ok finished) out audit → Is statuses.Done) (memory : Is statuses.Memory)
     (ends : (standing : SinkSeen) → standing.faults ≤ seen.out.after.faults
-    → (out audit : List ℕ) (exit_reason : ExitReason) → Ends line (standing_at seen standing) door splits command (Err exit_reason) out audit → Is (status_of exit_reason)) where
+    → (out audit : List ℕ) (exit_reason : ExitReason) → Ends line (standing_at seen standing) door counts command (Err exit_reason) out audit → Is (status_of exit_reason)) where
   finished_so : (standing : SinkSeen) → seen.out.before.faults ≤ standing.faults → standing.faults ≤ seen.out.after.faults
       → (out audit : List ℕ) (ended : Result (Unit {0}) ExitReason) (last : List ℕ) (answer : Status)
-      → Ends line (standing_at seen standing) door splits command ended out audit → Finishes (span standing seen.out.after) command ended last answer → Is answer
+      → Ends line (standing_at seen standing) door counts command ended out audit → Finishes (span standing seen.out.after) command ended last answer → Is answer
   finished_so standing earlier later out audit (Ok finished) last answer ended h = subst Is (sym h.1) (done standing later out audit finished ended)
   finished_so standing earlier later out audit (Err exit_reason) last answer ended (inl h) = subst Is (sym h.1) (ends standing later out audit exit_reason ended)
   finished_so standing earlier later out audit (Err exit_reason) last answer ended (inr h) = absurd (no_write_fault (inl (Rose-widen _ _ _ _ earlier (omega arith) h.2)))
 
-  ran_so : (answer : Status) (out audit : List ℕ) → Runs line seen door splits words answer out audit → Is answer
+  ran_so : (answer : Status) (out audit : List ℕ) → Runs line seen door counts words answer out audit → Is answer
   ran_so answer out audit (inl r) =
       let same : r.command ≡ command = some_same _ _ (sym r.is_command ∙ is_command) in
       finished_so r.standing r.earlier r.later r.served audit r.ended r.last answer
-      (subst (λ (c : Command). Ends line (standing_at seen r.standing) door splits c r.ended r.served audit) same r.ends)
+      (subst (λ (c : Command). Ends line (standing_at seen r.standing) door counts c r.ended r.served audit) same r.ends)
       (subst (λ (c : Command). Finishes (span r.standing seen.out.after) c r.ended r.last answer) same r.finishes)
   ran_so answer out audit (inr (inl r)) = let none = sym r.no_command ∙ is_command in cc
   ran_so answer out audit (inr (inr r)) = elim r.closes [ inl h ↦ subst Is (sym h.1) memory | inr h ↦ absurd (no_write_fault (inl h.2)) ]
@@ -150,7 +151,7 @@ no_text_fault sink none text put (exits.LineRefused event_fault) h = h
 no_text_fault sink none text put (exits.SessionsRefused line) h = h
 
 -- a replay that can be served ends by want of memory or the store's refusal alone
-module _ {L : Type 0} (line : L → LinkSeen) (seen : Sight) (door : Span (DoorSeen L)) (splits : Span ℕ) (words : List (List ℕ)) (can : CanReplay seen words) where
+module _ {L : Type 0} (line : L → LinkSeen) (seen : Sight) (door : Span (DoorSeen L)) (counts : Span RunCounts) (words : List (List ℕ)) (can : CanReplay seen words) where
   abbrev its : Command
   its = commands.Replay can.replay
 
@@ -160,7 +161,7 @@ module _ {L : Type 0} (line : L → LinkSeen) (seen : Sight) (door : Span (DoorS
   no_long roles.Sessions reached long = not_long_named seen.files can.replay.sessions reached.1 can.sessions_file (long can.opens.told)
   no_long roles.Events reached long = not_long seen its roles.Events can.events can.opens.told can.events_file can.short long
 
-  no_exit_reason : (out audit : List ℕ) (exit_reason : ExitReason) → EndsReplay seen splits its (Err exit_reason) out audit → IsCompleted (status_of exit_reason)
+  no_exit_reason : (out audit : List ℕ) (exit_reason : ExitReason) → EndsReplay seen counts its (Err exit_reason) out audit → IsCompleted (status_of exit_reason)
   no_exit_reason out audit exit_reason (inl h) =
       inr (inl (no_opening_fault seen its can.app can.opens exit_reason h.0.0 no_long (λ line bad. no_bad_line seen.files can.replay.sessions line can.opens.told can.sessions_file bad) (λ there bytes line. absurd (none_there there))))
   no_exit_reason out audit exits.WriteFault (inr h) = elim h.ends [
@@ -196,14 +197,14 @@ replay_standing seen standing later words can = record {
 }
 
 -- where nothing is missing and no read or put fails, all is served, unless memory runs out or the store refuses
-pub is_served : {L : Type 0} (line : L → LinkSeen) (seen : Sight) (door : Span (DoorSeen L)) (splits : Span ℕ) (words : List (List ℕ)) (can : CanReplay seen words)
-    → (answer : Status) (out audit : List ℕ) → Runs line seen door splits words answer out audit → IsCompleted answer
-is_served line seen door splits words can =
-    ran_so line seen door splits words (commands.Replay can.replay) can.is_command can.opens.no_write_fault IsCompleted (λ standing later out audit finished ended. inl refl) (inr (inl refl))
-    (λ standing later out audit exit_reason ends. no_exit_reason line (standing_at seen standing) door splits words (replay_standing seen standing later words can) out audit exit_reason ends.0)
+pub is_served : {L : Type 0} (line : L → LinkSeen) (seen : Sight) (door : Span (DoorSeen L)) (counts : Span RunCounts) (words : List (List ℕ)) (can : CanReplay seen words)
+    → (answer : Status) (out audit : List ℕ) → Runs line seen door counts words answer out audit → IsCompleted answer
+is_served line seen door counts words can =
+    ran_so line seen door counts words (commands.Replay can.replay) can.is_command can.opens.no_write_fault IsCompleted (λ standing later out audit finished ended. inl refl) (inr (inl refl))
+    (λ standing later out audit exit_reason ends. no_exit_reason line (standing_at seen standing) door counts words (replay_standing seen standing later words can) out audit exit_reason ends.0)
 
 -- the same of a check
-module _ {L : Type 0} (line : L → LinkSeen) (seen : Sight) (door : Span (DoorSeen L)) (splits : Span ℕ) (words : List (List ℕ)) (can : CanCheck seen words) where
+module _ {L : Type 0} (line : L → LinkSeen) (seen : Sight) (door : Span (DoorSeen L)) (counts : Span RunCounts) (words : List (List ℕ)) (can : CanCheck seen words) where
   abbrev checked : Command
   checked = commands.Check can.name
 
@@ -226,14 +227,14 @@ check_standing seen standing later words can = record {
 }
 
 -- where the application is there and no read or put fails, it is checked, unless memory runs out
-pub is_checked : {L : Type 0} (line : L → LinkSeen) (seen : Sight) (door : Span (DoorSeen L)) (splits : Span ℕ) (words : List (List ℕ)) (can : CanCheck seen words)
-    → (answer : Status) (out audit : List ℕ) → Runs line seen door splits words answer out audit → (answer ≡ statuses.Done) ⊎ (answer ≡ statuses.Memory)
-is_checked line seen door splits words can =
-    ran_so line seen door splits words (commands.Check can.name) can.is_command can.opens.no_write_fault (λ status. (status ≡ statuses.Done) ⊎ (status ≡ statuses.Memory)) (λ standing later out audit finished ended. inl refl) (inr refl)
-    (λ standing later out audit exit_reason ends. inr (no_check_exit_reason line (standing_at seen standing) door splits words (check_standing seen standing later words can) out audit exit_reason ends.0))
+pub is_checked : {L : Type 0} (line : L → LinkSeen) (seen : Sight) (door : Span (DoorSeen L)) (counts : Span RunCounts) (words : List (List ℕ)) (can : CanCheck seen words)
+    → (answer : Status) (out audit : List ℕ) → Runs line seen door counts words answer out audit → (answer ≡ statuses.Done) ⊎ (answer ≡ statuses.Memory)
+is_checked line seen door counts words can =
+    ran_so line seen door counts words (commands.Check can.name) can.is_command can.opens.no_write_fault (λ status. (status ≡ statuses.Done) ⊎ (status ≡ statuses.Memory)) (λ standing later out audit finished ended. inl refl) (inr refl)
+    (λ standing later out audit exit_reason ends. inr (no_check_exit_reason line (standing_at seen standing) door counts words (check_standing seen standing later words can) out audit exit_reason ends.0))
 
 -- the same of a demo
-module _ {L : Type 0} (line : L → LinkSeen) (seen : Sight) (door : Span (DoorSeen L)) (splits : Span ℕ) (words : List (List ℕ)) (can : CanDemo seen words) where
+module _ {L : Type 0} (line : L → LinkSeen) (seen : Sight) (door : Span (DoorSeen L)) (counts : Span RunCounts) (words : List (List ℕ)) (can : CanDemo seen words) where
   abbrev shown : Command
   shown = commands.Demo can.count
 
@@ -243,7 +244,7 @@ module _ {L : Type 0} (line : L → LinkSeen) (seen : Sight) (door : Span (DoorS
 
   not_tallied : (app : Application) (audit : List ℕ) (exit_reason : ExitReason)
       → (◌≡◌ {A = Result Summary ExitReason} (Err exit_reason) (Err exits.WriteFault) → Rose seen.audit.before.faults seen.audit.after.faults)
-      → EndsTallying app (held_of seen splits) can.count (Err exit_reason) audit → IsCompleted (status_of exit_reason)
+      → EndsTallying app (held_of seen counts) can.count (Err exit_reason) audit → IsCompleted (status_of exit_reason)
   not_tallied app audit exits.WriteFault rose h = absurd (can.no_write_fault (inr (rose refl)))
   not_tallied app audit exits.Memory rose h = inr (inl refl)
   not_tallied app audit exits.StoreFault rose h = inr (inr (inl refl))
@@ -259,17 +260,17 @@ module _ {L : Type 0} (line : L → LinkSeen) (seen : Sight) (door : Span (DoorS
 
   not_told : (app : Application) (ended : Result Summary ExitReason) (out audit : List ℕ) (exit_reason : ExitReason)
       → (ended ≡ Err exits.WriteFault → Rose seen.audit.before.faults seen.audit.after.faults)
-      → EndsTallying app (held_of seen splits) can.count ended audit → PutsSummary seen.out ended (Err exit_reason) out → IsCompleted (status_of exit_reason)
+      → EndsTallying app (held_of seen counts) can.count ended audit → PutsSummary seen.out ended (Err exit_reason) out → IsCompleted (status_of exit_reason)
   not_told app (Ok summary) out audit exit_reason rose ends told =
       absurd (no_text_fault seen.out (λ torn. can.no_write_fault (inl torn)) (summary_line summary) out exit_reason told)
   not_told app (Err fault) out audit exit_reason rose ends told =
       subst (λ (e : ExitReason). IsCompleted (status_of e)) (sym (same_exit_reason exit_reason fault told.0)) (not_tallied app audit fault rose ends)
 
-  not_counted : (app : Application) (out audit : List ℕ) (exit_reason : ExitReason) → EndsCounting (sinks_of seen) app (held_of seen splits) can.count (Err exit_reason) out audit → IsCompleted (status_of exit_reason)
+  not_counted : (app : Application) (out audit : List ℕ) (exit_reason : ExitReason) → EndsCounting (sinks_of seen) app (held_of seen counts) can.count (Err exit_reason) out audit → IsCompleted (status_of exit_reason)
   not_counted app out audit exit_reason (inl h) = absurd (can.no_write_fault (inr h.rose))
   not_counted app out audit exit_reason (inr h) = not_told app h.1.ended out audit exit_reason h.1.rose h.1.ends h.1.told
 
-  no_demo_exit_reason : (out audit : List ℕ) (exit_reason : ExitReason) → EndsDemo (sinks_of seen) (held_of seen splits) can.count (Err exit_reason) out audit → IsCompleted (status_of exit_reason)
+  no_demo_exit_reason : (out audit : List ℕ) (exit_reason : ExitReason) → EndsDemo (sinks_of seen) (held_of seen counts) can.count (Err exit_reason) out audit → IsCompleted (status_of exit_reason)
   no_demo_exit_reason out audit exit_reason (inl h) = not_opened exit_reason h.0
   no_demo_exit_reason out audit exit_reason (inr h) = not_counted h.app out audit exit_reason h.ends
 
@@ -281,14 +282,14 @@ demo_standing seen standing later words can = record {
 }
 
 -- where no put fails, all requests are answered, unless memory runs out or the store refuses
-pub is_shown : {L : Type 0} (line : L → LinkSeen) (seen : Sight) (door : Span (DoorSeen L)) (splits : Span ℕ) (words : List (List ℕ)) (can : CanDemo seen words)
-    → (answer : Status) (out audit : List ℕ) → Runs line seen door splits words answer out audit → IsCompleted answer
-is_shown line seen door splits words can =
-    ran_so line seen door splits words (commands.Demo can.count) can.is_command can.no_write_fault IsCompleted (λ standing later out audit finished ended. inl refl) (inr (inl refl))
-    (λ standing later out audit exit_reason ends. no_demo_exit_reason line (standing_at seen standing) door splits words (demo_standing seen standing later words can) out audit exit_reason ends.0)
+pub is_shown : {L : Type 0} (line : L → LinkSeen) (seen : Sight) (door : Span (DoorSeen L)) (counts : Span RunCounts) (words : List (List ℕ)) (can : CanDemo seen words)
+    → (answer : Status) (out audit : List ℕ) → Runs line seen door counts words answer out audit → IsCompleted answer
+is_shown line seen door counts words can =
+    ran_so line seen door counts words (commands.Demo can.count) can.is_command can.no_write_fault IsCompleted (λ standing later out audit finished ended. inl refl) (inr (inl refl))
+    (λ standing later out audit exit_reason ends. no_demo_exit_reason line (standing_at seen standing) door counts words (demo_standing seen standing later words can) out audit exit_reason ends.0)
 
 -- the same of a dump
-module _ {L : Type 0} (line : L → LinkSeen) (seen : Sight) (door : Span (DoorSeen L)) (splits : Span ℕ) (words : List (List ℕ)) (can : CanDump seen words) where
+module _ {L : Type 0} (line : L → LinkSeen) (seen : Sight) (door : Span (DoorSeen L)) (counts : Span RunCounts) (words : List (List ℕ)) (can : CanDump seen words) where
   abbrev dumped : Command
   dumped = commands.Dump can.dumping
 
@@ -326,11 +327,11 @@ dump_standing seen standing later words can = record {
 }
 
 -- where the application is there and no read or put fails, the store is dumped, unless memory runs out or the store refuses
-pub is_dumped : {L : Type 0} (line : L → LinkSeen) (seen : Sight) (door : Span (DoorSeen L)) (splits : Span ℕ) (words : List (List ℕ)) (can : CanDump seen words)
-    → (answer : Status) (out audit : List ℕ) → Runs line seen door splits words answer out audit → IsCompleted answer
-is_dumped line seen door splits words can =
-    ran_so line seen door splits words (commands.Dump can.dumping) can.is_command can.opens.no_write_fault IsCompleted (λ standing later out audit finished ended. inl refl) (inr (inl refl))
-    (λ standing later out audit exit_reason ends. no_dump_exit_reason line (standing_at seen standing) door splits words (dump_standing seen standing later words can) out audit exit_reason ends.0)
+pub is_dumped : {L : Type 0} (line : L → LinkSeen) (seen : Sight) (door : Span (DoorSeen L)) (counts : Span RunCounts) (words : List (List ℕ)) (can : CanDump seen words)
+    → (answer : Status) (out audit : List ℕ) → Runs line seen door counts words answer out audit → IsCompleted answer
+is_dumped line seen door counts words can =
+    ran_so line seen door counts words (commands.Dump can.dumping) can.is_command can.opens.no_write_fault IsCompleted (λ standing later out audit finished ended. inl refl) (inr (inl refl))
+    (λ standing later out audit exit_reason ends. no_dump_exit_reason line (standing_at seen standing) door counts words (dump_standing seen standing later words can) out audit exit_reason ends.0)
 
 -- a store that isn't attached completes so
 not_attached : (db : Option (List ℕ)) (app : Application) (k : Span KeeperSeen) (exit_reason : ExitReason) → AttachesAs db app k (Err exit_reason) → IsCompleted (status_of exit_reason)
@@ -361,7 +362,7 @@ kept_so k put exit_reason h = elim h.ended [
 ]
 
 -- the same of a `why`
-module _ {L : Type 0} (line : L → LinkSeen) (seen : Sight) (door : Span (DoorSeen L)) (splits : Span ℕ) (words : List (List ℕ)) (can : CanExplain seen words) where
+module _ {L : Type 0} (line : L → LinkSeen) (seen : Sight) (door : Span (DoorSeen L)) (counts : Span RunCounts) (words : List (List ℕ)) (can : CanExplain seen words) where
   abbrev explained : Command
   explained = commands.Why can.explaining
 
@@ -394,14 +395,14 @@ explain_standing seen standing later words can = record {
 }
 
 -- where the application is there and no read or put fails, it is told, unless memory runs out or the store refuses
-pub is_explained : {L : Type 0} (line : L → LinkSeen) (seen : Sight) (door : Span (DoorSeen L)) (splits : Span ℕ) (words : List (List ℕ)) (can : CanExplain seen words)
-    → (answer : Status) (out audit : List ℕ) → Runs line seen door splits words answer out audit → IsCompleted answer
-is_explained line seen door splits words can =
-    ran_so line seen door splits words (commands.Why can.explaining) can.is_command can.opens.no_write_fault IsCompleted (λ standing later out audit finished ended. inl refl) (inr (inl refl))
-    (λ standing later out audit exit_reason ends. no_explain_exit_reason line (standing_at seen standing) door splits words (explain_standing seen standing later words can) out audit exit_reason ends.0)
+pub is_explained : {L : Type 0} (line : L → LinkSeen) (seen : Sight) (door : Span (DoorSeen L)) (counts : Span RunCounts) (words : List (List ℕ)) (can : CanExplain seen words)
+    → (answer : Status) (out audit : List ℕ) → Runs line seen door counts words answer out audit → IsCompleted answer
+is_explained line seen door counts words can =
+    ran_so line seen door counts words (commands.Why can.explaining) can.is_command can.opens.no_write_fault IsCompleted (λ standing later out audit finished ended. inl refl) (inr (inl refl))
+    (λ standing later out audit exit_reason ends. no_explain_exit_reason line (standing_at seen standing) door counts words (explain_standing seen standing later words can) out audit exit_reason ends.0)
 
 -- the same of an upgrade
-module _ {L : Type 0} (line : L → LinkSeen) (seen : Sight) (door : Span (DoorSeen L)) (splits : Span ℕ) (words : List (List ℕ)) (can : CanUpgrade seen words) where
+module _ {L : Type 0} (line : L → LinkSeen) (seen : Sight) (door : Span (DoorSeen L)) (counts : Span RunCounts) (words : List (List ℕ)) (can : CanUpgrade seen words) where
   abbrev moving : Command
   moving = commands.Upgrade can.upgrading
 
@@ -488,26 +489,26 @@ upgrade_standing seen standing later words can = record {
 
 -- where both applications are there, the second extends the first, and no read or put fails, the store is brought to
 -- the second, unless memory runs out or the store refuses
-pub is_upgraded : {L : Type 0} (line : L → LinkSeen) (seen : Sight) (door : Span (DoorSeen L)) (splits : Span ℕ) (words : List (List ℕ)) (can : CanUpgrade seen words)
-    → Extends seen words can true → (answer : Status) (out audit : List ℕ) → Runs line seen door splits words answer out audit → IsCompleted answer
-is_upgraded line seen door splits words can finds =
-    ran_so line seen door splits words (commands.Upgrade can.upgrading) can.is_command can.opens.no_write_fault IsCompleted (λ standing later out audit finished ended. inl refl) (inr (inl refl))
+pub is_upgraded : {L : Type 0} (line : L → LinkSeen) (seen : Sight) (door : Span (DoorSeen L)) (counts : Span RunCounts) (words : List (List ℕ)) (can : CanUpgrade seen words)
+    → Extends seen words can true → (answer : Status) (out audit : List ℕ) → Runs line seen door counts words answer out audit → IsCompleted answer
+is_upgraded line seen door counts words can finds =
+    ran_so line seen door counts words (commands.Upgrade can.upgrading) can.is_command can.opens.no_write_fault IsCompleted (λ standing later out audit finished ended. inl refl) (inr (inl refl))
     (λ standing later out audit exit_reason ends.
-    no_upgrade_exit_reason line (standing_at seen standing) door splits words (upgrade_standing seen standing later words can) finds out audit exit_reason ends.0)
+    no_upgrade_exit_reason line (standing_at seen standing) door counts words (upgrade_standing seen standing later words can) finds out audit exit_reason ends.0)
 
 -- and where the second doesn't extend the first, it is refused, unless memory runs out
-pub is_refused : {L : Type 0} (line : L → LinkSeen) (seen : Sight) (door : Span (DoorSeen L)) (splits : Span ℕ) (words : List (List ℕ)) (can : CanUpgrade seen words)
-    → Extends seen words can false → (answer : Status) (out audit : List ℕ) → Runs line seen door splits words answer out audit
+pub is_refused : {L : Type 0} (line : L → LinkSeen) (seen : Sight) (door : Span (DoorSeen L)) (counts : Span RunCounts) (words : List (List ℕ)) (can : CanUpgrade seen words)
+    → Extends seen words can false → (answer : Status) (out audit : List ℕ) → Runs line seen door counts words answer out audit
     → (answer ≡ statuses.UpgradeRefused) ⊎ (answer ≡ statuses.Memory)
-is_refused line seen door splits words can finds =
-    ran_so line seen door splits words (commands.Upgrade can.upgrading) can.is_command can.opens.no_write_fault (λ status. (status ≡ statuses.UpgradeRefused) ⊎ (status ≡ statuses.Memory))
+is_refused line seen door counts words can finds =
+    ran_so line seen door counts words (commands.Upgrade can.upgrading) can.is_command can.opens.no_write_fault (λ status. (status ≡ statuses.UpgradeRefused) ⊎ (status ≡ statuses.Memory))
     (λ standing later out audit finished ended.
-    absurd (not_done line (standing_at seen standing) door splits words (upgrade_standing seen standing later words can) finds out audit finished ended.0)) (inr refl)
+    absurd (not_done line (standing_at seen standing) door counts words (upgrade_standing seen standing later words can) finds out audit finished ended.0)) (inr refl)
     (λ standing later out audit exit_reason ends.
-    no_refusal_exit_reason line (standing_at seen standing) door splits words (upgrade_standing seen standing later words can) finds out audit exit_reason ends.0)
+    no_refusal_exit_reason line (standing_at seen standing) door counts words (upgrade_standing seen standing later words can) finds out audit exit_reason ends.0)
 
 -- the same of serving a door
-module _ {L : Type 0} (line : L → LinkSeen) (seen : Sight) (door : Span (DoorSeen L)) (splits : Span ℕ) (words : List (List ℕ)) (can : CanServe seen door words) where
+module _ {L : Type 0} (line : L → LinkSeen) (seen : Sight) (door : Span (DoorSeen L)) (counts : Span RunCounts) (words : List (List ℕ)) (can : CanServe seen door words) where
   abbrev listening : Command
   listening = commands.Serve can.serving
 
@@ -517,7 +518,7 @@ module _ {L : Type 0} (line : L → LinkSeen) (seen : Sight) (door : Span (DoorS
   serve_long roles.Sessions reached long = not_long_named seen.files can.serving.sessions reached.1 can.sessions_file (long can.opens.told)
   serve_long roles.Events reached long = none_there reached.2
 
-  no_serve_exit_reason : (out audit : List ℕ) (exit_reason : ExitReason) → EndsServer line seen door splits can.serving (Err exit_reason) out audit → IsCompleted (status_of exit_reason)
+  no_serve_exit_reason : (out audit : List ℕ) (exit_reason : ExitReason) → EndsServer line seen door counts can.serving (Err exit_reason) out audit → IsCompleted (status_of exit_reason)
   no_serve_exit_reason out audit exit_reason (inl h) =
       inr (inl (no_opening_fault seen listening can.app can.opens exit_reason h.0.0 serve_long (λ n bad. no_bad_line seen.files can.serving.sessions n can.opens.told can.sessions_file bad) (λ there bytes line. absurd (none_there there))))
   no_serve_exit_reason out audit exits.WriteFault (inr h) = elim h.ends [
@@ -548,8 +549,8 @@ serve_standing seen standing later door words can = record {
 }
 
 -- where nothing is missing and no read, put or call of the door fails, it is served, unless memory runs out or the store refuses
-pub is_listened : {L : Type 0} (line : L → LinkSeen) (seen : Sight) (door : Span (DoorSeen L)) (splits : Span ℕ) (words : List (List ℕ)) (can : CanServe seen door words)
-    → (answer : Status) (out audit : List ℕ) → Runs line seen door splits words answer out audit → IsCompleted answer
-is_listened line seen door splits words can =
-    ran_so line seen door splits words (commands.Serve can.serving) can.is_command can.opens.no_write_fault IsCompleted (λ standing later out audit finished ended. inl refl) (inr (inl refl))
-    (λ standing later out audit exit_reason ends. no_serve_exit_reason line (standing_at seen standing) door splits words (serve_standing seen standing later door words can) out audit exit_reason ends)
+pub is_listened : {L : Type 0} (line : L → LinkSeen) (seen : Sight) (door : Span (DoorSeen L)) (counts : Span RunCounts) (words : List (List ℕ)) (can : CanServe seen door words)
+    → (answer : Status) (out audit : List ℕ) → Runs line seen door counts words answer out audit → IsCompleted answer
+is_listened line seen door counts words can =
+    ran_so line seen door counts words (commands.Serve can.serving) can.is_command can.opens.no_write_fault IsCompleted (λ standing later out audit finished ended. inl refl) (inr (inl refl))
+    (λ standing later out audit exit_reason ends. no_serve_exit_reason line (standing_at seen standing) door counts words (serve_standing seen standing later door words can) out audit exit_reason ends)

@@ -28,13 +28,13 @@ use Rattle.jac_command_base.specs.declared.exit_reason.ExitReason.TheVariants as
 use Rattle.jac_app.specs.declared.summary.Summary.{Summary}
 use Rattle.jac_app.specs.declared.summary.Tally.{Tally}
 use Rattle.jac_dispatch.specs.Asked.{ask_in}
-use Rattle.jac_app.specs.Demo.{asks_by, bytes_in, labels_shown, labels_in, summary_of, tally_of, summary_after, IsCounted, PutsTally, TalliesAsk, TearsAsk, TalliesLine, Tallied, TalliedTorn, Tallies, IsTalliedOn, EndsTallying, IsDemoTold, EndsCounting, summary_line, demo_script}
+use Rattle.jac_app.specs.Demo.{asks_by, bytes_in, labels_shown, labels_in, summary_of, tally_of, summary_after, IsCounted, PutsTally, TalliesAsk, TearsAsk, TalliesLine, Tallied, TalliedTorn, Tallies, TalliesLeaving, IsTalliedOn, EndsTallying, IsDemoTold, EndsCounting, summary_line, demo_script}
 use Rattle.jac_replies.specs.Failed.{status_of_stop}
 use Rattle.jac_dispatch.specs.Log.{application_hearing}
 use Rattle.jac_serve_events.specs.AnswerSpec.{LogEntry, IsHeardBy}
 use Rattle.jac_serve_events.specs.Log.{Brings, method_of, audit_line, audit_lines}
 use Rattle.jac_replies.specs.Spelled.{audit_text}
-use Rattle.jac_serve_events.specs.RunSeen.{RunSeen, run_seen_of, keepers}
+use Rattle.jac_serve_events.specs.RunSeen.{RunCounts, RunSeen, run_seen_of, keepers}
 use Rattle.jac_serve_events.specs.Outside.{Span, span, sinks, IsFront, IsPut, Went, WentAimed, WentTo}
 use Rattle.jac_command_base.specs.Attached.{AttachesAs}
 use Rattle.jac_serve_events.specs.Script.{Script, script_from, script_of, script_step}
@@ -326,13 +326,14 @@ tally_unattached app k count (exits.SessionsRefused line) h unsplit = absurd h
 tally_unattached app k count exits.WriteFault h unsplit = absurd h
 
 -- the requests were answered on an attached store
-pub tallied_on : (app : Application) (before opened : KeeperSeen) (splits : ℕ) (after : RunSeen) (count : ℕ) (result : Result Summary DemoFault) (audit : List ℕ)
+pub tallied_on : (app : Application) (before opened : KeeperSeen) (counts : RunCounts) (after : RunSeen) (count : ℕ) (result : Result Summary DemoFault) (audit : List ℕ)
     → AttachesAs None app (span before opened) (Ok tt) → after.keeper.store ≡ opened.store
-    → Tallies app (span (run_seen_of opened splits) after) (demo_script count) result audit → IsTalliedOn app (span (run_seen_of before splits) after) count result audit
-tallied_on app before opened splits after count result audit attaches stays h = record {
+    → TalliesLeaving app (span (run_seen_of opened counts) after) (demo_script count) result audit → IsTalliedOn app (span (run_seen_of before counts) after) count result audit
+tallied_on app before opened counts after count result audit attaches stays h = record {
   opened = opened;
   attached = is_attached None app before opened after.keeper attaches stays;
-  tallies = h;
+  left = h.0;
+  tallies = h.1;
 }
 
 no_fault : (X : Type 0) (summary : Summary) → ◌≡◌ {A = Result Summary ExitReason} (Ok summary) (Err exits.WriteFault) → X

@@ -5,3 +5,4 @@ pub mod CauseLemmas
 pub mod CompleteLemmas
 pub mod ServerLemmas
 pub mod DemoLemmas
+pub mod Leaving

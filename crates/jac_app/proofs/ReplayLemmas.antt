@@ -14,7 +14,7 @@ use Rattle.jac_serve_events.specs.declared.serve.ReplayError.{ReplayError}
 use Rattle.jac_serve_events.specs.declared.serve.ReplayError.TheVariants as stops
 use Rattle.jac_serve_events.specs.Script.{Script, script_of}
 use Rattle.jac_dispatch.specs.Answered.{answer_spec_of}
-use Rattle.jac_serve_events.specs.RunSeen.{RunSeen, run_seen_of, keepers}
+use Rattle.jac_serve_events.specs.RunSeen.{RunCounts, RunSeen, run_seen_of, keepers}
 use Rattle.jac_serve_events.specs.Outside.{Span, span, Sinks, sinks, WentAimed, WentWith}
 use Rattle.jac_serve_events.specs.AnswerSpec.{AnswerSpec}
 use Rattle.jac_serve_events.specs.Serve.{ServesAs}
@@ -24,8 +24,8 @@ use Rattle.jac_command_base.specs.ExitReason.{exit_reason_of}
 use Rattle.jac_command_base.specs.Attached.{AttachesAs}
 use Rattle.jac_command_base.specs.Early.{IsEndedEarly}
 use Rattle.jac_command_base.specs.Startup.{sight_of, AreFilesRead, EndsAim, HasBegun, IsBarred, IsHalted, IsStoppedAiming}
-use Rattle.jac_app.specs.Held.{held_of}
-use Rattle.jac_app.specs.Replay.{EndsServed, IsServedOn, EndsAttaching, EndsServing, EndsReplay}
+use Rattle.jac_app.specs.Held.{held_of, leaving, opened_on}
+use Rattle.jac_app.specs.Replay.{EndsServed, EndsServedLeaving, IsServedOn, EndsAttaching, EndsServing, EndsReplay}
 use Rattle.jac_serve_events.proofs.OutsideLemmas.{Lasts-none, Took-none, FailsWithin, fails_behind, Went-none}
 use Rattle.jac_serve_events.proofs.ProgressLemmas.{puts_torn_within}
 use Rattle.jac_command_base.proofs.ExitReasonLemmas.{is_attached, went_aimed, WentAimed-on}
@@ -49,33 +49,34 @@ attach_ends command app sessions k script (exits.SessionsRefused line) s h unspl
 attach_ends command app sessions k script exits.WriteFault s h unsplit = absurd h
 
 -- the events were served on it, by a dispatcher that is as lazy as the command says
-module _ (command : Command) (app : Application) (sessions : List Session) (before opened : KeeperSeen) (splits : ℕ) (after : RunSeen) (events : List ℕ)
+module _ (command : Command) (app : Application) (sessions : List Session) (before opened : KeeperSeen) (counts : RunCounts) (after : RunSeen) (events : List ℕ)
     (attaches : AttachesAs (db_of command) app (span before opened) (Ok tt)) (stays : after.keeper.store ≡ opened.store) (lazy : Bool) (same : lazy ≡ lazy_of command) where
   on : (result : Result (Unit {0}) ExitReason) (s : Sinks) (o a : List ℕ)
-      → EndsServed (answer_spec_of lazy app sessions) (span (run_seen_of opened splits) after) (script_of events) result s o a
-      → IsServedOn command app sessions (span (run_seen_of before splits) after) (script_of events) result s o a
+      → EndsServedLeaving (answer_spec_of lazy app sessions) (span (run_seen_of opened counts) after) (script_of events) result s o a
+      → IsServedOn command app sessions (span (run_seen_of before counts) after) (script_of events) result s o a
   on result s o a ends = record {
     opened = opened;
     attached = is_attached (db_of command) app before opened after.keeper attaches stays;
-    ends = subst (λ (is : Bool). EndsServed (answer_spec_of is app sessions) (span (run_seen_of opened splits) after) (script_of events) result s o a) same ends;
+    left = ends.0;
+    ends = subst (λ (is : Bool). EndsServed (answer_spec_of is app sessions) (leaving (span (run_seen_of opened counts) after) ends.0) (script_of events) result s o a) same ends.1;
   }
 
   pub served_on : (result : Result (Unit {0}) ExitReason) (s : Sinks) (o a : List ℕ)
-      → EndsServed (answer_spec_of lazy app sessions) (span (run_seen_of opened splits) after) (script_of events) result s o a
-      → EndsAttaching command app sessions (span (run_seen_of before splits) after) (script_of events) result s o a
+      → EndsServedLeaving (answer_spec_of lazy app sessions) (span (run_seen_of opened counts) after) (script_of events) result s o a
+      → EndsAttaching command app sessions (span (run_seen_of before counts) after) (script_of events) result s o a
   served_on (Ok done) s o a h = on (Ok done) s o a h
   served_on (Err (exits.LineRefused event_fault)) s o a h = on (Err (exits.LineRefused event_fault)) s o a h
   served_on (Err exits.WriteFault) s o a h = on (Err exits.WriteFault) s o a h
   served_on (Err exits.Memory) s o a h = inr (on (Err exits.Memory) s o a h)
-  served_on (Err exits.DoorFault) s o a h = absurd h
-  served_on (Err exits.StoreFault) s o a h = absurd h
-  served_on (Err (exits.OtherStore stored wanted)) s o a h = absurd h
-  served_on (Err (exits.ReadFault role)) s o a h = absurd h
-  served_on (Err (exits.TooLong role)) s o a h = absurd h
-  served_on (Err (exits.AppRefused text)) s o a h = absurd h
-  served_on (Err (exits.NewRefused text)) s o a h = absurd h
-  served_on (Err (exits.UpgradeRefused text)) s o a h = absurd h
-  served_on (Err (exits.SessionsRefused n)) s o a h = absurd h
+  served_on (Err exits.DoorFault) s o a h = absurd h.1
+  served_on (Err exits.StoreFault) s o a h = absurd h.1
+  served_on (Err (exits.OtherStore stored wanted)) s o a h = absurd h.1
+  served_on (Err (exits.ReadFault role)) s o a h = absurd h.1
+  served_on (Err (exits.TooLong role)) s o a h = absurd h.1
+  served_on (Err (exits.AppRefused text)) s o a h = absurd h.1
+  served_on (Err (exits.NewRefused text)) s o a h = absurd h.1
+  served_on (Err (exits.UpgradeRefused text)) s o a h = absurd h.1
+  served_on (Err (exits.SessionsRefused n)) s o a h = absurd h.1
 
 -- serving them stopped
 pub served_stopped : (x : AnswerSpec) (k : Span RunSeen) (events : List ℕ) (stopped : ReplayError) (s : Sinks) (o a : List ℕ)
@@ -85,10 +86,10 @@ served_stopped x k events stops.Write s o a h = h
 served_stopped x k events stops.Memory s o a h = h
 
 -- the last steps end a replay
-pub served_ends : (seen : Sight) (splits : Span ℕ) (command : Command) (app : Application) (sessions : List Session) (events out audit : List ℕ) (result : Result (Unit {0}) ExitReason)
-    → IsOpened seen command app sessions events → EndsServing (sinks_of seen) command app sessions (held_of seen splits) (script_of events) result out audit
-    → EndsReplay seen splits command result out audit
-served_ends seen splits command app sessions events out audit result opened h =
+pub served_ends : (seen : Sight) (counts : Span RunCounts) (command : Command) (app : Application) (sessions : List Session) (events out audit : List ℕ) (result : Result (Unit {0}) ExitReason)
+    → IsOpened seen command app sessions events → EndsServing (sinks_of seen) command app sessions (held_of seen counts) (script_of events) result out audit
+    → EndsReplay seen counts command result out audit
+served_ends seen counts command app sessions events out audit result opened h =
     inr (record { app = app; sessions = sessions; events = events; opened = opened; ends = h })
 
 -- what was torn after the aim was torn within all
@@ -113,7 +114,8 @@ on_within : (command : Command) (app : Application) (sessions : List Session) (k
 on_within command app sessions k script all part result o a within h = record {
   opened = h.opened;
   attached = h.attached;
-  ends = served_within (answer_spec_of (lazy_of command) app sessions) (span (run_seen_of h.opened k.before.splits) k.after) script all part result o a within h.ends;
+  left = h.left;
+  ends = served_within (answer_spec_of (lazy_of command) app sessions) (opened_on h.opened k h.left) script all part result o a within h.ends;
 }
 
 -- the aim and what follows it
@@ -169,31 +171,31 @@ few_events files replay app sessions events read =
     omega (arith, short)
 
 -- a replay that was halted as it began
-module _ (files : Span FilesSeen) (out audit later : SinkSeen) (before after : KeeperSeen) (splits : ℕ) (replay : Replay) where
+module _ (files : Span FilesSeen) (out audit later : SinkSeen) (before after : KeeperSeen) (counts : RunCounts) (replay : Replay) where
   replay_idle : (exit_reason : ExitReason) → IsEndedEarly (sight_of files (span out out) (span audit later) (span before after)) (commands.Replay replay) (Err exit_reason) [] [] → later ≡ audit
-      → WentAimed (sinks out out audit later) (EndsReplay (sight_of files (span out out) (span audit later) (span before after)) (span splits splits) (commands.Replay replay) (Err exit_reason))
+      → WentAimed (sinks out out audit later) (EndsReplay (sight_of files (span out out) (span audit later) (span before after)) (span counts counts) (commands.Replay replay) (Err exit_reason))
   replay_idle exit_reason early uncalled = idle_behind out audit later _ uncalled (inl (early, refl))
 
   module _ (app : Application) (sessions : List Session) (events : List ℕ) (read : AreFilesRead (commands.Replay replay) files app sessions events) where
     replay_unaimed : (failed : Failed) → Aims audit later replay.audit (Err failed)
-        → WentAimed (sinks out out audit later) (EndsReplay (sight_of files (span out out) (span audit later) (span before before)) (span splits splits) (commands.Replay replay) (Err exits.WriteFault))
+        → WentAimed (sinks out out audit later) (EndsReplay (sight_of files (span out out) (span audit later) (span before before)) (span counts counts) (commands.Replay replay) (Err exits.WriteFault))
     replay_unaimed failed aims =
         let seen = sight_of files (span out out) (span audit later) (span before before) in
         WentAimed-on (sinks out out audit later) _ _
         (λ o a h.
-        served_ends seen (span splits splits) (commands.Replay replay) app sessions events o a (Err exits.WriteFault)
+        served_ends seen (span counts counts) (commands.Replay replay) app sessions events o a (Err exits.WriteFault)
         (replay_opened files (span out out) (span audit later) (span before before) replay app sessions events read) h)
-        (aim_failed out audit later (commands.Replay replay) failed app sessions (run_seen_of before splits) (script_of events) aims)
+        (aim_failed out audit later (commands.Replay replay) failed app sessions (run_seen_of before counts) (script_of events) aims)
 
     replay_barred : (exit_reason : ExitReason) → Aims audit later replay.audit (Ok tt) → AttachesAs replay.db app (span before after) (Err exit_reason)
-        → WentAimed (sinks out out audit later) (EndsReplay (sight_of files (span out out) (span audit later) (span before after)) (span splits splits) (commands.Replay replay) (Err exit_reason))
+        → WentAimed (sinks out out audit later) (EndsReplay (sight_of files (span out out) (span audit later) (span before after)) (span counts counts) (commands.Replay replay) (Err exit_reason))
     replay_barred exit_reason aims attaches =
         let command = commands.Replay replay in
         let seen = sight_of files (span out out) (span audit later) (span before after) in
-        let k = span (run_seen_of before splits) (run_seen_of after splits) in
+        let k = span (run_seen_of before counts) (run_seen_of after counts) in
         went_aimed out out audit later later replay.audit tt aims _ _
         (λ is_aimed o a h.
-        served_ends seen (span splits splits) command app sessions events o a (Err exit_reason)
+        served_ends seen (span counts counts) command app sessions events o a (Err exit_reason)
         (replay_opened files (span out out) (span audit later) (span before after) replay app sessions events read)
         (serving_behind (sinks out out audit later) (sinks out out later later) command app sessions k (script_of events) (Err exit_reason) o a
         (fails_behind out out out audit later later (omega arith) aims.later) is_aimed h))
@@ -201,41 +203,41 @@ module _ (files : Span FilesSeen) (out audit later : SinkSeen) (before after : K
         (attach_ends command app sessions k (script_of events) exit_reason (sinks out out later later) attaches refl))
 
     replay_stopped : (exit_reason : ExitReason) → after ≡ before → EndsAim replay.audit (span audit later) (Err exit_reason)
-        → WentAimed (sinks out out audit later) (EndsReplay (sight_of files (span out out) (span audit later) (span before after)) (span splits splits) (commands.Replay replay) (Err exit_reason))
+        → WentAimed (sinks out out audit later) (EndsReplay (sight_of files (span out out) (span audit later) (span before after)) (span counts counts) (commands.Replay replay) (Err exit_reason))
     replay_stopped exit_reason still (inl (failed, is, aims)) =
-        subst (λ (e : ExitReason). WentAimed (sinks out out audit later) (EndsReplay (sight_of files (span out out) (span audit later) (span before after)) (span splits splits) (commands.Replay replay) (Err e))) (sym is)
-        (subst (λ (k : KeeperSeen). WentAimed (sinks out out audit later) (EndsReplay (sight_of files (span out out) (span audit later) (span before k)) (span splits splits) (commands.Replay replay) (Err exits.WriteFault))) (sym still)
+        subst (λ (e : ExitReason). WentAimed (sinks out out audit later) (EndsReplay (sight_of files (span out out) (span audit later) (span before after)) (span counts counts) (commands.Replay replay) (Err e))) (sym is)
+        (subst (λ (k : KeeperSeen). WentAimed (sinks out out audit later) (EndsReplay (sight_of files (span out out) (span audit later) (span before k)) (span counts counts) (commands.Replay replay) (Err exits.WriteFault))) (sym still)
         (replay_unaimed failed aims))
     replay_stopped exit_reason still (inr (is, uncalled)) =
-        subst (λ (e : ExitReason). WentAimed (sinks out out audit later) (EndsReplay (sight_of files (span out out) (span audit later) (span before after)) (span splits splits) (commands.Replay replay) (Err e))) (sym is)
+        subst (λ (e : ExitReason). WentAimed (sinks out out audit later) (EndsReplay (sight_of files (span out out) (span audit later) (span before after)) (span counts counts) (commands.Replay replay) (Err e))) (sym is)
         (replay_idle exits.Memory (memory_early (commands.Replay replay) files (span out out) (span audit later) (span before after) uncalled still) uncalled)
 
     replay_behind : (exit_reason : ExitReason) → IsStoppedAiming (commands.Replay replay) (span audit later) (span before after) exit_reason ⊎ IsBarred (commands.Replay replay) app (span audit later) (span before after) exit_reason
-        → WentAimed (sinks out out audit later) (EndsReplay (sight_of files (span out out) (span audit later) (span before after)) (span splits splits) (commands.Replay replay) (Err exit_reason))
+        → WentAimed (sinks out out audit later) (EndsReplay (sight_of files (span out out) (span audit later) (span before after)) (span counts counts) (commands.Replay replay) (Err exit_reason))
     replay_behind exit_reason (inr barred) = replay_barred exit_reason barred.aims barred.attaches
     replay_behind exit_reason (inl stopped) = replay_stopped exit_reason stopped.still stopped.aims
 
   pub replay_halted : (exit_reason : ExitReason) → IsHalted (commands.Replay replay) files (span audit later) (span before after) exit_reason
-      → WentAimed (sinks out out audit later) (EndsReplay (sight_of files (span out out) (span audit later) (span before after)) (span splits splits) (commands.Replay replay) (Err exit_reason))
+      → WentAimed (sinks out out audit later) (EndsReplay (sight_of files (span out out) (span audit later) (span before after)) (span counts counts) (commands.Replay replay) (Err exit_reason))
   replay_halted exit_reason (inl early) = replay_idle exit_reason (ended_early (commands.Replay replay) files (span out out) (span audit later) (span before after) exit_reason early) early.uncalled
   replay_halted exit_reason (inr behind) = replay_behind behind.app behind.sessions behind.events behind.read exit_reason behind.halts
 
 -- one that began, and then served its events
-pub replay_served : (files : Span FilesSeen) (out_before out_after audit aimed later : SinkSeen) (before opened after : KeeperSeen) (splits more : ℕ) (replay : Replay)
+pub replay_served : (files : Span FilesSeen) (out_before out_after audit aimed later : SinkSeen) (before opened after : KeeperSeen) (counts more : RunCounts) (replay : Replay)
     (app : Application) (sessions : List Session) (events : List ℕ) (result : Result (Unit {0}) ExitReason)
     → HasBegun (commands.Replay replay) files (span audit aimed) (span before opened) app sessions events → after.store ≡ opened.store
-    → WentWith (sinks out_before out_after aimed later) (EndsServed (answer_spec_of replay.lazy app sessions) (span (run_seen_of opened splits) (run_seen_of after more)) (script_of events) result)
+    → WentWith (sinks out_before out_after aimed later) (EndsServedLeaving (answer_spec_of replay.lazy app sessions) (span (run_seen_of opened counts) (run_seen_of after more)) (script_of events) result)
     → WentAimed (sinks out_before out_after audit later)
-    (EndsReplay (sight_of files (span out_before out_after) (span audit later) (span before after)) (span splits more) (commands.Replay replay) result)
-replay_served files out_before out_after audit aimed later before opened after splits more replay app sessions events result begun stays went =
+    (EndsReplay (sight_of files (span out_before out_after) (span audit later) (span before after)) (span counts more) (commands.Replay replay) result)
+replay_served files out_before out_after audit aimed later before opened after counts more replay app sessions events result begun stays went =
     let command = commands.Replay replay in
     let seen = sight_of files (span out_before out_after) (span audit later) (span before after) in
-    let k = span (run_seen_of before splits) (run_seen_of after more) in
+    let k = span (run_seen_of before counts) (run_seen_of after more) in
     went_aimed out_before out_after audit aimed later replay.audit tt begun.aims _ _
     (λ is_aimed o a h.
-    served_ends seen (span splits more) command app sessions events o a result
+    served_ends seen (span counts more) command app sessions events o a result
     (replay_opened files (span out_before out_after) (span audit later) (span before after) replay app sessions events begun.read)
     (serving_behind (sinks out_before out_after audit later) (sinks out_before out_after aimed later) command app sessions k (script_of events) result o a
     (fails_behind out_before out_before out_after audit aimed later (omega arith) begun.aims.later) is_aimed
-    (served_on command app sessions before opened splits (run_seen_of after more) events begun.attaches stays replay.lazy refl result (sinks out_before out_after aimed later) o a h)))
+    (served_on command app sessions before opened counts (run_seen_of after more) events begun.attaches stays replay.lazy refl result (sinks out_before out_after aimed later) o a h)))
     went

@@ -21,9 +21,9 @@ use Rattle.jac_command_base.specs.Early.{IsEndedEarly}
 use Rattle.jac_command_base.specs.Startup.{sight_of, AreFilesRead, EndsAim, HasBegun, IsBarred, IsHalted, IsStoppedAiming}
 use Rattle.jac_connections.specs.Door.{LinkVisit, IsEnding, AreLinksServed}
 use Rattle.jac_serve_events.specs.AnswerSpec.{AnswerSpec, LogEntry}
-use Rattle.jac_serve_events.specs.RunSeen.{RunSeen, run_seen_of, keepers}
-use Rattle.jac_app.specs.Held.{held_of}
-use Rattle.jac_app.specs.Server.{served_line, exit_reason_of_halt, EndsConnections, IsListenedAt, EndsDoor, IsServedAt, EndsAttached, EndsAimed, EndsServer}
+use Rattle.jac_serve_events.specs.RunSeen.{RunCounts, RunSeen, run_seen_of, keepers}
+use Rattle.jac_app.specs.Held.{held_of, opened_on}
+use Rattle.jac_app.specs.Server.{served_line, exit_reason_of_halt, EndsConnections, IsListenedAt, EndsDoor, EndsDoorLeaving, IsServedAt, EndsAttached, EndsAimed, EndsServer}
 use Rattle.jac_serve_events.proofs.OutsideLemmas.{Lasts-none, Took-none, Rose-widen, FailsWithin, fails_behind, Went-none}
 use Rattle.jac_command_base.proofs.ExitReasonLemmas.{is_attached, went_aimed, WentAimed-on}
 use Rattle.jac_command_base.proofs.StartupLemmas.{application_read, ended_early, idle_behind, memory_early}
@@ -168,28 +168,28 @@ module _ {L : Type 0} (line : L → LinkSeen) (app : Application) (sessions : Li
 
   -- ---- after the attaching
 
-  module _ (serving : ServeArgs) (door : Span (DoorSeen L)) (before opened : KeeperSeen) (splits : ℕ) (after : RunSeen)
+  module _ (serving : ServeArgs) (door : Span (DoorSeen L)) (before opened : KeeperSeen) (counts : RunCounts) (after : RunSeen)
       (attaches : AttachesAs serving.db app (span before opened) (Ok tt)) (stays : after.keeper.store ≡ opened.store) where
-    served_on : (result : Result (Unit {0}) ExitReason) (s : Sinks) (out audit : List ℕ) → EndsDoor line app sessions serving door (span (run_seen_of opened splits) after) result s out audit
-        → IsServedAt line app sessions serving door (span (run_seen_of before splits) after) result s out audit
-    served_on result s out audit ends = record { opened = opened; attached = is_attached serving.db app before opened after.keeper attaches stays; ends = ends }
+    served_on : (result : Result (Unit {0}) ExitReason) (s : Sinks) (out audit : List ℕ) → EndsDoorLeaving line app sessions serving door (span (run_seen_of opened counts) after) result s out audit
+        → IsServedAt line app sessions serving door (span (run_seen_of before counts) after) result s out audit
+    served_on result s out audit ends = record { opened = opened; attached = is_attached serving.db app before opened after.keeper attaches stays; left = ends.0; ends = ends.1 }
 
     -- the store was attached, and the door was served
-    pub attached_ends : (result : Result (Unit {0}) ExitReason) (s : Sinks) (out audit : List ℕ) → EndsDoor line app sessions serving door (span (run_seen_of opened splits) after) result s out audit
-        → EndsAttached line app sessions serving door (span (run_seen_of before splits) after) result s out audit
+    pub attached_ends : (result : Result (Unit {0}) ExitReason) (s : Sinks) (out audit : List ℕ) → EndsDoorLeaving line app sessions serving door (span (run_seen_of opened counts) after) result s out audit
+        → EndsAttached line app sessions serving door (span (run_seen_of before counts) after) result s out audit
     attached_ends (Ok done) s out audit h = served_on (Ok done) s out audit h
     attached_ends (Err exits.DoorFault) s out audit h = served_on (Err exits.DoorFault) s out audit h
     attached_ends (Err exits.WriteFault) s out audit h = served_on (Err exits.WriteFault) s out audit h
     attached_ends (Err exits.Memory) s out audit h = inr (served_on (Err exits.Memory) s out audit h)
-    attached_ends (Err exits.StoreFault) s out audit h = absurd h.ends
-    attached_ends (Err (exits.OtherStore stored wanted)) s out audit h = absurd h.ends
-    attached_ends (Err (exits.ReadFault role)) s out audit h = absurd h.ends
-    attached_ends (Err (exits.TooLong role)) s out audit h = absurd h.ends
-    attached_ends (Err (exits.AppRefused text)) s out audit h = absurd h.ends
-    attached_ends (Err (exits.NewRefused text)) s out audit h = absurd h.ends
-    attached_ends (Err (exits.UpgradeRefused text)) s out audit h = absurd h.ends
-    attached_ends (Err (exits.LineRefused event_fault)) s out audit h = absurd h.ends
-    attached_ends (Err (exits.SessionsRefused n)) s out audit h = absurd h.ends
+    attached_ends (Err exits.StoreFault) s out audit h = absurd h.1.ends
+    attached_ends (Err (exits.OtherStore stored wanted)) s out audit h = absurd h.1.ends
+    attached_ends (Err (exits.ReadFault role)) s out audit h = absurd h.1.ends
+    attached_ends (Err (exits.TooLong role)) s out audit h = absurd h.1.ends
+    attached_ends (Err (exits.AppRefused text)) s out audit h = absurd h.1.ends
+    attached_ends (Err (exits.NewRefused text)) s out audit h = absurd h.1.ends
+    attached_ends (Err (exits.UpgradeRefused text)) s out audit h = absurd h.1.ends
+    attached_ends (Err (exits.LineRefused event_fault)) s out audit h = absurd h.1.ends
+    attached_ends (Err (exits.SessionsRefused n)) s out audit h = absurd h.1.ends
 
   -- it wasn't
   pub unattached_ends : (serving : ServeArgs) (door : DoorSeen L) (k : Span RunSeen) (exit_reason : ExitReason) (s : Sinks) → AttachesAs serving.db app (keepers k) (Err exit_reason) → k.after.splits ≡ k.before.splits
@@ -257,7 +257,8 @@ module _ {L : Type 0} (line : L → LinkSeen) (app : Application) (sessions : Li
     at_within k result out audit h = record {
       opened = h.opened;
       attached = h.attached;
-      ends = door_within (span (run_seen_of h.opened k.before.splits) k.after) result out audit h.ends;
+      left = h.left;
+      ends = door_within (opened_on h.opened k h.left) result out audit h.ends;
     }
 
     -- the audit was aimed, and what follows it
@@ -292,39 +293,39 @@ module _ {L : Type 0} (line : L → LinkSeen) (app : Application) (sessions : Li
   }
 
 -- the last steps end the command
-pub server_ends : {L : Type 0} (line : L → LinkSeen) (seen : Sight) (door : Span (DoorSeen L)) (splits : Span ℕ) (serving : ServeArgs) (app : Application) (sessions : List Session) (out audit : List ℕ)
+pub server_ends : {L : Type 0} (line : L → LinkSeen) (seen : Sight) (door : Span (DoorSeen L)) (counts : Span RunCounts) (serving : ServeArgs) (app : Application) (sessions : List Session) (out audit : List ℕ)
     (result : Result (Unit {0}) ExitReason)
     → HasApplication seen (commands.Serve serving) app → HasSessions seen.files serving.sessions sessions
-    → EndsAimed line (sinks_of seen) app sessions serving door (held_of seen splits) result out audit → EndsServer line seen door splits serving result out audit
-server_ends line seen door splits serving app sessions out audit result application had h =
+    → EndsAimed line (sinks_of seen) app sessions serving door (held_of seen counts) result out audit → EndsServer line seen door counts serving result out audit
+server_ends line seen door counts serving app sessions out audit result application had h =
     inr (record { app = app; sessions = sessions; application = application; sessions_had = had; ends = h })
 
 -- a `serve` that was halted as it began
-module _ {L : Type 0} (line : L → LinkSeen) (files : Span FilesSeen) (out audit later : SinkSeen) (before after : KeeperSeen) (door : DoorSeen L) (splits : ℕ) (serving : ServeArgs) where
+module _ {L : Type 0} (line : L → LinkSeen) (files : Span FilesSeen) (out audit later : SinkSeen) (before after : KeeperSeen) (door : DoorSeen L) (counts : RunCounts) (serving : ServeArgs) where
   server_idle : (exit_reason : ExitReason) → IsEndedEarly (sight_of files (span out out) (span audit later) (span before after)) (commands.Serve serving) (Err exit_reason) [] [] → later ≡ audit
-      → WentAimed (sinks out out audit later) (EndsServer line (sight_of files (span out out) (span audit later) (span before after)) (span door door) (span splits splits) serving (Err exit_reason))
+      → WentAimed (sinks out out audit later) (EndsServer line (sight_of files (span out out) (span audit later) (span before after)) (span door door) (span counts counts) serving (Err exit_reason))
   server_idle exit_reason early uncalled = idle_behind out audit later _ uncalled (inl (early, refl, refl))
 
   module _ (app : Application) (sessions : List Session) (events : List ℕ) (read : AreFilesRead (commands.Serve serving) files app sessions events) where
     server_unaimed : (failed : Failed) → Aims audit later serving.audit (Err failed)
         → WentAimed (sinks out out audit later)
-        (EndsServer line (sight_of files (span out out) (span audit later) (span before before)) (span door door) (span splits splits) serving (Err exits.WriteFault))
+        (EndsServer line (sight_of files (span out out) (span audit later) (span before before)) (span door door) (span counts counts) serving (Err exits.WriteFault))
     server_unaimed failed aims =
         let seen = sight_of files (span out out) (span audit later) (span before before) in
         WentAimed-on (sinks out out audit later) _ _
         (λ o a h.
-        server_ends line seen (span door door) (span splits splits) serving app sessions o a (Err exits.WriteFault)
+        server_ends line seen (span door door) (span counts counts) serving app sessions o a (Err exits.WriteFault)
         (application_read (commands.Serve serving) files (span out out) (span audit later) (span before before) app sessions events read) read.sessions_had h)
-        (unaimed_ends line app sessions out audit later serving door (run_seen_of before splits) failed aims)
+        (unaimed_ends line app sessions out audit later serving door (run_seen_of before counts) failed aims)
 
     server_barred : (exit_reason : ExitReason) → Aims audit later serving.audit (Ok tt) → AttachesAs serving.db app (span before after) (Err exit_reason)
-        → WentAimed (sinks out out audit later) (EndsServer line (sight_of files (span out out) (span audit later) (span before after)) (span door door) (span splits splits) serving (Err exit_reason))
+        → WentAimed (sinks out out audit later) (EndsServer line (sight_of files (span out out) (span audit later) (span before after)) (span door door) (span counts counts) serving (Err exit_reason))
     server_barred exit_reason aims attaches =
         let seen = sight_of files (span out out) (span audit later) (span before after) in
-        let k = span (run_seen_of before splits) (run_seen_of after splits) in
+        let k = span (run_seen_of before counts) (run_seen_of after counts) in
         went_aimed out out audit later later serving.audit tt aims _ _
         (λ is_aimed o a h.
-        server_ends line seen (span door door) (span splits splits) serving app sessions o a (Err exit_reason)
+        server_ends line seen (span door door) (span counts counts) serving app sessions o a (Err exit_reason)
         (application_read (commands.Serve serving) files (span out out) (span audit later) (span before after) app sessions events read) read.sessions_had
         (aimed_ends line app sessions serving (span door door) (sinks out out audit later) (sinks out out later later)
         (fails_behind out out out audit later later (omega arith) aims.later) k (Err exit_reason) o a is_aimed h))
@@ -332,41 +333,41 @@ module _ {L : Type 0} (line : L → LinkSeen) (files : Span FilesSeen) (out audi
         (unattached_ends line app sessions serving door k exit_reason (sinks out out later later) attaches refl))
 
     server_stopped : (exit_reason : ExitReason) → after ≡ before → EndsAim serving.audit (span audit later) (Err exit_reason)
-        → WentAimed (sinks out out audit later) (EndsServer line (sight_of files (span out out) (span audit later) (span before after)) (span door door) (span splits splits) serving (Err exit_reason))
+        → WentAimed (sinks out out audit later) (EndsServer line (sight_of files (span out out) (span audit later) (span before after)) (span door door) (span counts counts) serving (Err exit_reason))
     server_stopped exit_reason still (inl (failed, is, aims)) =
-        subst (λ (e : ExitReason). WentAimed (sinks out out audit later) (EndsServer line (sight_of files (span out out) (span audit later) (span before after)) (span door door) (span splits splits) serving (Err e))) (sym is)
+        subst (λ (e : ExitReason). WentAimed (sinks out out audit later) (EndsServer line (sight_of files (span out out) (span audit later) (span before after)) (span door door) (span counts counts) serving (Err e))) (sym is)
         (subst (λ (k : KeeperSeen). WentAimed (sinks out out audit later)
-        (EndsServer line (sight_of files (span out out) (span audit later) (span before k)) (span door door) (span splits splits) serving (Err exits.WriteFault))) (sym still)
+        (EndsServer line (sight_of files (span out out) (span audit later) (span before k)) (span door door) (span counts counts) serving (Err exits.WriteFault))) (sym still)
         (server_unaimed failed aims))
     server_stopped exit_reason still (inr (is, uncalled)) =
-        subst (λ (e : ExitReason). WentAimed (sinks out out audit later) (EndsServer line (sight_of files (span out out) (span audit later) (span before after)) (span door door) (span splits splits) serving (Err e))) (sym is)
+        subst (λ (e : ExitReason). WentAimed (sinks out out audit later) (EndsServer line (sight_of files (span out out) (span audit later) (span before after)) (span door door) (span counts counts) serving (Err e))) (sym is)
         (server_idle exits.Memory (memory_early (commands.Serve serving) files (span out out) (span audit later) (span before after) uncalled still) uncalled)
 
     server_behind : (exit_reason : ExitReason) → IsStoppedAiming (commands.Serve serving) (span audit later) (span before after) exit_reason ⊎ IsBarred (commands.Serve serving) app (span audit later) (span before after) exit_reason
-        → WentAimed (sinks out out audit later) (EndsServer line (sight_of files (span out out) (span audit later) (span before after)) (span door door) (span splits splits) serving (Err exit_reason))
+        → WentAimed (sinks out out audit later) (EndsServer line (sight_of files (span out out) (span audit later) (span before after)) (span door door) (span counts counts) serving (Err exit_reason))
     server_behind exit_reason (inr barred) = server_barred exit_reason barred.aims barred.attaches
     server_behind exit_reason (inl stopped) = server_stopped exit_reason stopped.still stopped.aims
 
   pub server_halted : (exit_reason : ExitReason) → IsHalted (commands.Serve serving) files (span audit later) (span before after) exit_reason
-      → WentAimed (sinks out out audit later) (EndsServer line (sight_of files (span out out) (span audit later) (span before after)) (span door door) (span splits splits) serving (Err exit_reason))
+      → WentAimed (sinks out out audit later) (EndsServer line (sight_of files (span out out) (span audit later) (span before after)) (span door door) (span counts counts) serving (Err exit_reason))
   server_halted exit_reason (inl early) = server_idle exit_reason (ended_early (commands.Serve serving) files (span out out) (span audit later) (span before after) exit_reason early) early.uncalled
   server_halted exit_reason (inr behind) = server_behind behind.app behind.sessions behind.events behind.read exit_reason behind.halts
 
 -- one that began, and then served its door
 pub server_served : {L : Type 0} (line : L → LinkSeen) (files : Span FilesSeen) (out_before out_after audit aimed later : SinkSeen) (before opened after : KeeperSeen) (door : Span (DoorSeen L))
-    (splits more : ℕ) (serving : ServeArgs) (app : Application) (sessions : List Session) (events : List ℕ) (result : Result (Unit {0}) ExitReason)
+    (counts more : RunCounts) (serving : ServeArgs) (app : Application) (sessions : List Session) (events : List ℕ) (result : Result (Unit {0}) ExitReason)
     → HasBegun (commands.Serve serving) files (span audit aimed) (span before opened) app sessions events → after.store ≡ opened.store
-    → WentWith (sinks out_before out_after aimed later) (EndsDoor line app sessions serving door (span (run_seen_of opened splits) (run_seen_of after more)) result)
+    → WentWith (sinks out_before out_after aimed later) (EndsDoorLeaving line app sessions serving door (span (run_seen_of opened counts) (run_seen_of after more)) result)
     → WentAimed (sinks out_before out_after audit later)
-    (EndsServer line (sight_of files (span out_before out_after) (span audit later) (span before after)) door (span splits more) serving result)
-server_served line files out_before out_after audit aimed later before opened after door splits more serving app sessions events result begun stays went =
+    (EndsServer line (sight_of files (span out_before out_after) (span audit later) (span before after)) door (span counts more) serving result)
+server_served line files out_before out_after audit aimed later before opened after door counts more serving app sessions events result begun stays went =
     let seen = sight_of files (span out_before out_after) (span audit later) (span before after) in
-    let k = span (run_seen_of before splits) (run_seen_of after more) in
+    let k = span (run_seen_of before counts) (run_seen_of after more) in
     went_aimed out_before out_after audit aimed later serving.audit tt begun.aims _ _
     (λ is_aimed o a h.
-    server_ends line seen door (span splits more) serving app sessions o a result
+    server_ends line seen door (span counts more) serving app sessions o a result
     (application_read (commands.Serve serving) files (span out_before out_after) (span audit later) (span before after) app sessions events begun.read) begun.read.sessions_had
     (aimed_ends line app sessions serving door (sinks out_before out_after audit later) (sinks out_before out_after aimed later)
     (fails_behind out_before out_before out_after audit aimed later (omega arith) begun.aims.later) k result o a is_aimed
-    (attached_ends line app sessions serving door before opened splits (run_seen_of after more) begun.attaches stays result (sinks out_before out_after aimed later) o a h)))
+    (attached_ends line app sessions serving door before opened counts (run_seen_of after more) begun.attaches stays result (sinks out_before out_after aimed later) o a h)))
     went

@@ -23,13 +23,14 @@ use Rattle.jac_app.specs.declared.summary.Tally.{Tally}
 use Rattle.jac_app_load.specs.Application.{IsApplication, schema_text}
 use Rattle.jac_dispatch.specs.Asked.{ask_in}
 use Rattle.jac_command_base.specs.ExitReason.{PutsText}
-use Rattle.jac_app.specs.Held.{IsUnstarted, IsLeftAlone}
+use Rattle.jac_app.specs.Held.{leaving, opened_on, IsUnstarted, IsLeftAlone}
+use Rattle.jac_viewer_caches.specs.declared.viewer_caches.ViewerEntry.{ViewerEntry}
 use Rattle.jac_command_base.specs.Files.{IsAimed, IsUnopened}
-use Rattle.jac_serve_events.specs.RunSeen.{RunSeen, run_seen_of, keepers, IsStill}
+use Rattle.jac_serve_events.specs.RunSeen.{RunSeen, keepers, IsStill}
 use Rattle.jac_serve_events.specs.AnswerSpec.{LogEntry}
 use Rattle.jac_serve_events.specs.Log.{method_of, audit_line, audit_lines}
 use Rattle.jac_replies.specs.Spelled.{audit_text}
-use Rattle.jac_serve_events.specs.Outside.{Span, span, Sinks, IsFront}
+use Rattle.jac_serve_events.specs.Outside.{Span, Sinks, IsFront}
 use Rattle.jac_command_base.specs.Attached.{IsAttached, IsOther}
 use Rattle.jac_serve_events.specs.Script.{Script, script_of}
 use Rattle.jac_dispatch.specs.Answered.{IsAnswerMade, IsEntryOf, answer_spec_of}
@@ -186,13 +187,20 @@ Tallies app k script (Err faults.Write) audit = TalliedTorn app k script.events 
 abbrev pub demo_script : ℕ → Script
 demo_script count = script_of (demo_text count)
 
--- a store without a name was attached, and the requests were answered on what it keeps
+-- the same, where something was kept at the end for those who looked
+abbrev pub TalliesLeaving : Application → Span RunSeen → Script → Result Summary DemoFault → List ℕ
+    → Type 0
+TalliesLeaving app k script result audit =
+    (left : List ViewerEntry) × Tallies app (leaving k left) script result audit
+
+-- a store without a name was attached, and the requests were answered on what it keeps. This was
+-- kept at the end for those who looked
 pub record IsTalliedOn (app : Application) (k : Span RunSeen) (count : ℕ)
     (result : Result Summary DemoFault) (audit : List ℕ) : Type 0 where
   pub opened : KeeperSeen
   pub attached : IsAttached None app (keepers k) opened
-  pub tallies : Tallies app (span (run_seen_of opened k.before.splits) k.after) (demo_script count)
-      result audit
+  pub left : List ViewerEntry
+  pub tallies : Tallies app (opened_on opened k left) (demo_script count) result audit
 
 -- how the steps from the attaching on end
 abbrev pub EndsTallying : Application → Span RunSeen → ℕ → Result Summary ExitReason → List ℕ → Type

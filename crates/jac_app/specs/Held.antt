@@ -1,15 +1,26 @@
--- What a command that serves sees of its keeper, and of the facets that were split.
+-- What a command that serves sees of its keeper, of what it counts, and of what is kept for those
+-- who looked.
 use Rattle.std.specs.Prelude.{◌≡◌, ℕ, List}
 use Rattle.jac_command_base.specs.Attached.{IsUnattached}
 use Rattle.jac_command_base.specs.Files.{Sight, IsIdle}
 use Rattle.jac_io.specs.Seen.{SinkSeen}
-use Rattle.jac_serve_events.specs.RunSeen.{RunSeen, run_seen_of, keepers}
+use Rattle.jac_keep.specs.KeeperSeen.{KeeperSeen}
+use Rattle.jac_serve_events.specs.RunSeen.{RunCounts, RunSeen, counts_in, run_seen_of, run_seen_with, keepers}
 use Rattle.jac_serve_events.specs.Outside.{Span, span}
+use Rattle.jac_viewer_caches.specs.declared.viewer_caches.ViewerEntry.{ViewerEntry}
 
--- of which there were so many before and after
-abbrev pub held_of : Sight → Span ℕ → Span RunSeen
-held_of seen splits =
-    span (run_seen_of seen.keeper.before splits.before) (run_seen_of seen.keeper.after splits.after)
+-- so much was counted before and after
+abbrev pub held_of : Sight → Span RunCounts → Span RunSeen
+held_of seen counts =
+    span (run_seen_of seen.keeper.before counts.before) (run_seen_of seen.keeper.after counts.after)
+
+-- the same, where this was kept at the end for those who looked
+abbrev pub leaving : Span RunSeen → List ViewerEntry → Span RunSeen
+leaving k left = span k.before (run_seen_with k.after.keeper (counts_in k.after) left)
+
+-- the same from the opened store on, with what had been counted by then
+abbrev pub opened_on : KeeperSeen → Span RunSeen → List ViewerEntry → Span RunSeen
+opened_on opened k left = leaving (span (run_seen_of opened (counts_in k.before)) k.after) left
 
 -- nothing was put, the audit wasn't aimed, the keeper wasn't called, and no facet was split
 pub record IsLeftAlone (sink : Span SinkSeen) (k : Span RunSeen) (out audit : List ℕ) : Type 0 where

@@ -10,15 +10,16 @@ use Rattle.jac_command_base.specs.declared.exit_reason.ExitReason.TheVariants as
 use Rattle.jac_app_load.specs.Application.{schema_text}
 use Rattle.jac_dispatch.specs.Answered.{answer_spec_of}
 use Rattle.jac_serve_events.specs.AnswerSpec.{AnswerSpec}
-use Rattle.jac_serve_events.specs.RunSeen.{RunSeen, run_seen_of, keepers, IsStill}
-use Rattle.jac_serve_events.specs.Outside.{Span, span, Sinks, HasFaulted}
+use Rattle.jac_serve_events.specs.RunSeen.{RunCounts, RunSeen, keepers, IsStill}
+use Rattle.jac_serve_events.specs.Outside.{Span, Sinks, HasFaulted}
+use Rattle.jac_viewer_caches.specs.declared.viewer_caches.ViewerEntry.{ViewerEntry}
 use Rattle.jac_cli.specs.Commands.{audit_of, db_of, lazy_of}
 use Rattle.jac_command_base.specs.Files.{Sight, sinks_of, IsOpened, IsAimed}
 use Rattle.jac_serve_events.specs.Script.{Script, script_of}
 use Rattle.jac_serve_events.specs.Serve.{PutsServed, PutsTorn}
 use Rattle.jac_command_base.specs.Attached.{IsAttached, IsOther}
 use Rattle.jac_command_base.specs.Early.{IsEndedEarly}
-use Rattle.jac_app.specs.Held.{held_of, IsUnstarted, IsLeftAlone}
+use Rattle.jac_app.specs.Held.{held_of, leaving, opened_on, IsUnstarted, IsLeftAlone}
 
 -- how the events of a script are served on an attached store: what was torn was so on the sink that
 -- failed
@@ -32,14 +33,22 @@ EndsServed x k script (Err exits.WriteFault) s out audit = PutsTorn x k script s
 EndsServed x k script (Err exits.Memory) s out audit = PutsServed true x k script out audit
 EndsServed x k script (Err exit_reason) s out audit = ⊥
 
+-- the same, where something was kept at the end for those who looked
+abbrev pub EndsServedLeaving : AnswerSpec → Span RunSeen → Script → Result (Unit {0}) ExitReason
+    → Sinks → List ℕ → List ℕ → Type 0
+EndsServedLeaving x k script result s out audit =
+    (left : List ViewerEntry) × EndsServed x (leaving k left) script result s out audit
+
 -- a store was attached, and the events were served from what it keeps; attaching it split no facet
+-- and evaluated no policy. This was kept at the end for those who looked
 pub record IsServedOn (command : Command) (app : Application) (sessions : List Session)
     (k : Span RunSeen) (script : Script) (result : Result (Unit {0}) ExitReason) (s : Sinks)
     (out audit : List ℕ) : Type 0 where
   pub opened : KeeperSeen
   pub attached : IsAttached (db_of command) app (keepers k) opened
+  pub left : List ViewerEntry
   pub ends : EndsServed (answer_spec_of (lazy_of command) app sessions)
-      (span (run_seen_of opened k.before.splits) k.after) script result s out audit
+      (opened_on opened k left) script result s out audit
 
 -- how the steps from the attaching on end
 abbrev pub EndsAttaching : Command → Application → List Session → Span RunSeen → Script
@@ -66,19 +75,19 @@ EndsServing s command app sessions k script result out audit =
     × EndsAttaching command app sessions k script result s out audit
 
 -- the files were read, and then the events were served
-pub record IsServing (seen : Sight) (splits : Span ℕ) (command : Command)
+pub record IsServing (seen : Sight) (counts : Span RunCounts) (command : Command)
     (result : Result (Unit {0}) ExitReason) (out audit : List ℕ) : Type 0 where
   pub app : Application
   pub sessions : List Session
   pub events : List ℕ
   pub opened : IsOpened seen command app sessions events
-  pub ends : EndsServing (sinks_of seen) command app sessions (held_of seen splits)
+  pub ends : EndsServing (sinks_of seen) command app sessions (held_of seen counts)
       (script_of events)
       result out audit
 
 -- what the steps of a replay put, and why they ended
-abbrev pub EndsReplay : Sight → Span ℕ → Command → Result (Unit {0}) ExitReason
+abbrev pub EndsReplay : Sight → Span RunCounts → Command → Result (Unit {0}) ExitReason
     → List ℕ → List ℕ → Type 0
-EndsReplay seen splits command result out audit =
-    (IsEndedEarly seen command result out audit × IsStill splits)
-    ⊎ IsServing seen splits command result out audit
+EndsReplay seen counts command result out audit =
+    (IsEndedEarly seen command result out audit × IsStill counts)
+    ⊎ IsServing seen counts command result out audit

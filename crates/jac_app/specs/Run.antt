@@ -15,7 +15,7 @@ use Rattle.jac_serve_events.specs.declared.serve.EventFault.{EventFault}
 use Rattle.jac_command_base.specs.declared.status.Status.{Status}
 use Rattle.jac_command_base.specs.declared.status.Status.TheVariants as statuses
 use Rattle.jac_app_load.specs.Application.{IsApplication, schema_text}
-use Rattle.jac_serve_events.specs.RunSeen.{IsStill}
+use Rattle.jac_serve_events.specs.RunSeen.{RunCounts, IsStill}
 use Rattle.jac_serve_events.specs.Outside.{Span, span, AWriteFailed, WentAimed}
 use Rattle.jac_cli.specs.Words.{command_of}
 use Rattle.jac_cli.specs.Commands.{file_of, name_of}
@@ -48,64 +48,67 @@ usage_line = codes
 abbrev pub IsUncalled : {L : Type 0} → Span (DoorSeen L) → Type 0
 IsUncalled door = door.after ≡ door.before
 
--- what the steps of a command put, and why they ended; those of `serve` alone call the door, and a
--- check, a dump and a `why` split no facet
-abbrev pub Ends : {L : Type 0} → (L → LinkSeen) → Sight → Span (DoorSeen L) → Span ℕ → Command
-    → Result (Unit {0}) ExitReason → List ℕ → List ℕ → Type 0
-Ends line seen door splits (commands.Check app) result out audit =
-    EndsCheck seen (commands.Check app) result out audit × IsUncalled door × IsStill splits
-Ends line seen door splits (commands.Replay replay) result out audit =
-    EndsReplay seen splits (commands.Replay replay) result out audit × IsUncalled door
-Ends line seen door splits (commands.Serve serving) result out audit =
-    EndsServer line seen door splits serving result out audit
-Ends line seen door splits (commands.Demo n) result out audit =
-    EndsDemo (sinks_of seen) (held_of seen splits) n result out audit × IsUncalled door
-Ends line seen door splits (commands.Dump dumping) result out audit =
-    EndsDump seen (commands.Dump dumping) result out audit × IsUncalled door × IsStill splits
-Ends line seen door splits (commands.Upgrade upgrading) result out audit =
+-- what the steps of a command put, and why they ended; those of `serve` alone call the door, a
+-- check, a dump and a `why` split no facet, and the first two evaluate no policy
+abbrev pub Ends : {L : Type 0} → (L → LinkSeen) → Sight → Span (DoorSeen L) → Span RunCounts
+    → Command → Result (Unit {0}) ExitReason → List ℕ → List ℕ → Type 0
+Ends line seen door counts (commands.Check app) result out audit =
+    EndsCheck seen (commands.Check app) result out audit × IsUncalled door × IsStill counts
+Ends line seen door counts (commands.Replay replay) result out audit =
+    EndsReplay seen counts (commands.Replay replay) result out audit × IsUncalled door
+Ends line seen door counts (commands.Serve serving) result out audit =
+    EndsServer line seen door counts serving result out audit
+Ends line seen door counts (commands.Demo n) result out audit =
+    EndsDemo (sinks_of seen) (held_of seen counts) n result out audit × IsUncalled door
+Ends line seen door counts (commands.Dump dumping) result out audit =
+    EndsDump seen (commands.Dump dumping) result out audit × IsUncalled door × IsStill counts
+Ends line seen door counts (commands.Upgrade upgrading) result out audit =
     EndsUpgrade seen (commands.Upgrade upgrading) result out audit × IsUncalled door
-Ends line seen door splits (commands.Why explaining) result out audit =
-    EndsExplain seen (commands.Why explaining) result out audit × IsUncalled door × IsStill splits
+Ends line seen door counts (commands.Why explaining) result out audit =
+    EndsExplain seen (commands.Why explaining) result out audit × IsUncalled door
+    × (counts.after.splits ≡ counts.before.splits)
 
 -- the words are a command whose steps were run until out stood so, and then the line of its status
 -- was put: what fails of that line is no cause of how the steps ended
 pub record RunsCommand {L : Type 0} (line : L → LinkSeen) (seen : Sight) (door : Span (DoorSeen L))
-    (splits : Span ℕ) (words : List (List ℕ)) (status : Status) (out audit : List ℕ) : Type 0 where
+    (counts : Span RunCounts) (words : List (List ℕ)) (status : Status) (out audit : List ℕ)
+    : Type 0 where
   pub command : Command
   pub ended : Result (Unit {0}) ExitReason
   pub standing : SinkSeen
   pub served : List ℕ
   pub last : List ℕ
   pub is_command : command_of words ≡ Some command
-  pub ends : Ends line (standing_at seen standing) door splits command ended served audit
+  pub ends : Ends line (standing_at seen standing) door counts command ended served audit
   pub finishes : Finishes (span standing seen.out.after) command ended last status
   pub earlier : seen.out.before.faults ≤ standing.faults
   pub later : standing.faults ≤ seen.out.after.faults
   pub out_text : out ≡ served ++ last
 
 -- the words are no command
-pub record RunsNothing {L : Type 0} (seen : Sight) (door : Span (DoorSeen L)) (splits : Span ℕ)
-    (words : List (List ℕ)) (status : Status) (out audit : List ℕ) : Type 0 where
+pub record RunsNothing {L : Type 0} (seen : Sight) (door : Span (DoorSeen L))
+    (counts : Span RunCounts) (words : List (List ℕ)) (status : Status) (out audit : List ℕ)
+    : Type 0 where
   pub no_command : command_of words ≡ None
   pub closes : Closes seen.out usage_line statuses.Usage out status
   pub idle : IsIdle seen.audit seen.keeper [] audit
   pub uncalled : IsUncalled door
-  pub unsplit : IsStill splits
+  pub unsplit : IsStill counts
 
 -- memory ran out as the words were read
-pub record RunsOut {L : Type 0} (seen : Sight) (door : Span (DoorSeen L)) (splits : Span ℕ)
+pub record RunsOut {L : Type 0} (seen : Sight) (door : Span (DoorSeen L)) (counts : Span RunCounts)
     (status : Status) (out audit : List ℕ) : Type 0 where
   pub closes : Closes seen.out (codes "memory\n") statuses.Memory out status
   pub idle : IsIdle seen.audit seen.keeper [] audit
   pub uncalled : IsUncalled door
-  pub unsplit : IsStill splits
+  pub unsplit : IsStill counts
 
-abbrev pub Runs : {L : Type 0} → (L → LinkSeen) → Sight → Span (DoorSeen L) → Span ℕ
+abbrev pub Runs : {L : Type 0} → (L → LinkSeen) → Sight → Span (DoorSeen L) → Span RunCounts
     → List (List ℕ) → Status → List ℕ → List ℕ → Type 0
-Runs line seen door splits words status out audit =
-    RunsCommand line seen door splits words status out audit
-    ⊎ (RunsNothing seen door splits words status out audit
-    ⊎ RunsOut seen door splits status out audit)
+Runs line seen door counts words status out audit =
+    RunsCommand line seen door counts words status out audit
+    ⊎ (RunsNothing seen door counts words status out audit
+    ⊎ RunsOut seen door counts status out audit)
 
 -- where a sessions file is named it is there, isn't too long, and each of its lines has a form
 abbrev pub CanHaveSessions : FilesSeen → Option (List ℕ) → Type 0
@@ -256,10 +259,10 @@ IsCompleted status = (status ≡ statuses.Done) ⊎ (status ≡ statuses.Memory)
 -- keeper keeps at the end shows under every assignment the world that the ordinary interpreter
 -- leaves; a door that tells told before, and its count didn't fall; the status has its cause; and
 -- where nothing is missing and nothing fails, all is done, unless memory runs out. So many facets
--- were split before and after
+-- were split, and policies evaluated, before and after
 pub record IsRun {L : Type 0} (line : L → LinkSeen) (seen : Sight) (door : Span (DoorSeen L))
-    (splits : Span ℕ) (words : List (List ℕ)) (status : Status) : Type 0 where
-  pub ran : WentAimed (sinks_of seen) (Runs line seen door splits words status)
+    (counts : Span RunCounts) (words : List (List ℕ)) (status : Status) : Type 0 where
+  pub ran : WentAimed (sinks_of seen) (Runs line seen door counts words status)
   pub lasts : DoorLasts door.before door.after
   pub cause : ComesFor seen door words status
   pub replays : CanReplay seen words → IsCompleted status

@@ -13,15 +13,18 @@ use Rattle.jac_connections.specs.declared.door.Tally.{Tally}
 use Rattle.jac_command_base.specs.declared.exit_reason.ExitReason.{ExitReason}
 use Rattle.jac_command_base.specs.declared.exit_reason.ExitReason.TheVariants as exits
 use Rattle.jac_serve_events.specs.AnswerSpec.{AnswerSpec}
-use Rattle.jac_serve_events.specs.RunSeen.{RunSeen, run_seen_of, keepers, IsStill}
+use Rattle.jac_serve_events.specs.RunSeen.{RunCounts, RunSeen, keepers, IsStill}
 use Rattle.jac_dispatch.specs.Answered.{answer_spec_of}
-use Rattle.jac_serve_events.specs.Outside.{Span, span, Sinks, IsFront, HasFaulted}
+use Rattle.jac_serve_events.specs.Outside.{Span, Sinks, IsFront, HasFaulted}
+use Rattle.jac_viewer_caches.specs.declared.viewer_caches.ViewerEntry.{ViewerEntry}
 use Rattle.jac_command_base.specs.Files.{Sight, sinks_of, HasApplication, HasSessions, IsAimed}
 use Rattle.jac_app_load.specs.Application.{schema_text}
 use Rattle.jac_command_base.specs.Attached.{IsAttached, IsOther}
 use Rattle.jac_command_base.specs.Early.{IsEndedEarly}
-use Rattle.jac_app.specs.Held.{held_of, IsUnstarted, IsLeftAlone}
+use Rattle.jac_app.specs.Held.{held_of, leaving, opened_on, IsUnstarted, IsLeftAlone}
 use Rattle.jac_connections.specs.Door.{AreLinksServed}
+use Rattle.jac_connections.specs.Link.{IsLinkServed}
+use Rattle.jac_connections.specs.declared.link.Halt.{Halt}
 
 -- `served C connections, K replies`
 abbrev pub served_line : Tally → List ℕ
@@ -80,15 +83,29 @@ EndsDoor line app sessions serving door k (Err exits.DoorFault) s out audit =
 EndsDoor line app sessions serving door k result s out audit =
     IsListenedAt line app sessions serving door k result s out audit
 
+-- the same, where something was kept at the end for those who looked
+abbrev pub EndsDoorLeaving : {L : Type 0} → (L → LinkSeen) → Application → List Session → ServeArgs
+    → Span (DoorSeen L) → Span RunSeen → Result (Unit {0}) ExitReason → Sinks → List ℕ → List ℕ
+    → Type 0
+EndsDoorLeaving line app sessions serving door k result s out audit =
+    (left : List ViewerEntry)
+    × EndsDoor line app sessions serving door (leaving k left) result s out audit
+
+-- one link was served, and something was kept at the end for those who looked
+abbrev pub IsLinkServedLeaving : AnswerSpec → ℕ → ℕ → Span LinkSeen → Span RunSeen → Result ℕ Halt
+    → List ℕ → List ℕ → Type 0
+IsLinkServedLeaving x c first link k result out audit =
+    (left : List ViewerEntry) × IsLinkServed x c first link (leaving k left) result out audit
+
 -- a store was attached, and the connections were served from what it keeps; attaching it split no
--- facet
+-- facet and evaluated no policy. This was kept at the end for those who looked
 pub record IsServedAt {L : Type 0} (line : L → LinkSeen) (app : Application)
     (sessions : List Session) (serving : ServeArgs) (door : Span (DoorSeen L)) (k : Span RunSeen)
     (result : Result (Unit {0}) ExitReason) (s : Sinks) (out audit : List ℕ) : Type 0 where
   pub opened : KeeperSeen
   pub attached : IsAttached serving.db app (keepers k) opened
-  pub ends : EndsDoor line app sessions serving door
-      (span (run_seen_of opened k.before.splits) k.after) result s out audit
+  pub left : List ViewerEntry
+  pub ends : EndsDoor line app sessions serving door (opened_on opened k left) result s out audit
 
 -- no store was attached, and the door wasn't called
 pub record IsUnserved {L : Type 0} (door : Span (DoorSeen L)) (k : Span RunSeen)
@@ -124,21 +141,21 @@ EndsAimed line s app sessions serving door k result out audit =
 
 -- the files were read, and then the connections were served
 pub record IsServer {L : Type 0} (line : L → LinkSeen) (seen : Sight) (door : Span (DoorSeen L))
-    (splits : Span ℕ) (serving : ServeArgs) (result : Result (Unit {0}) ExitReason)
+    (counts : Span RunCounts) (serving : ServeArgs) (result : Result (Unit {0}) ExitReason)
     (out audit : List ℕ)
     : Type 0 where
   pub app : Application
   pub sessions : List Session
   pub application : HasApplication seen (commands.Serve serving) app
   pub sessions_had : HasSessions seen.files serving.sessions sessions
-  pub ends : EndsAimed line (sinks_of seen) app sessions serving door (held_of seen splits)
+  pub ends : EndsAimed line (sinks_of seen) app sessions serving door (held_of seen counts)
       result out audit
 
 -- what the steps of `serve` put, and why they ended
-abbrev pub EndsServer : {L : Type 0} → (L → LinkSeen) → Sight → Span (DoorSeen L) → Span ℕ →
+abbrev pub EndsServer : {L : Type 0} → (L → LinkSeen) → Sight → Span (DoorSeen L) → Span RunCounts →
     ServeArgs
     → Result (Unit {0}) ExitReason → List ℕ → List ℕ → Type 0
-EndsServer line seen door splits serving result out audit =
+EndsServer line seen door counts serving result out audit =
     (IsEndedEarly seen (commands.Serve serving) result out audit
-    × IsStill splits × (door.after ≡ door.before))
-    ⊎ IsServer line seen door splits serving result out audit
+    × IsStill counts × (door.after ≡ door.before))
+    ⊎ IsServer line seen door counts serving result out audit

@@ -16,7 +16,8 @@ pub struct Counts<'s, 'e, L: Ledger, M: Ledger> {
 
 impl<L: Ledger, M: Ledger> Drop for Counts<'_, '_, L, M> {
     fn drop(self)
-        ensures { self.exit.0.now ≡ self.entry.splits.now }
+        ensures splits { self.exit.0.now ≡ self.entry.splits.now }
+        ensures evaluations { self.exit.1.0.now ≡ self.entry.evaluations.now }
     {
         let Counts {
             splits: _,

@@ -13,17 +13,17 @@ ghost use Rattle.jac_engine.specs.Start.{IsStart};
 ghost use Rattle.jac_replies.specs.Refused.{refusal};
 ghost use Rattle.jac_command_base.specs.declared.exit_reason.ExitReason.TheVariants as exits;
 ghost use Rattle.jac_app_load.specs.Application.{IsApplication, schema_text};
-ghost use Rattle.jac_dispatch.specs.Answered.{AreValidCaches, answer_spec};
+ghost use Rattle.jac_dispatch.specs.Answered.{AreKeptFor, AreValidCaches, answer_spec};
 ghost use Rattle.jac_dispatch.specs.Asked.{ask_in};
 ghost use Rattle.jac_dispatch.specs.Seen.{whose, dispatcher_seen};
 ghost use Rattle.jac_calendar_laws.specs.Asking.{IsAsking};
-ghost use Rattle.jac_app.specs.Demo.{EndsCounting, EndsDemo, EndsTallying, IsBounded, IsCounted, IsDemoTold, PutsTally, Tallies, TalliesAsk, TalliesEvent, TalliesLine, demo_script, tally_of};
+ghost use Rattle.jac_app.specs.Demo.{EndsCounting, EndsDemo, EndsTallying, IsBounded, IsCounted, IsDemoTold, PutsTally, Tallies, TalliesLeaving, TalliesAsk, TalliesEvent, TalliesLine, demo_script, tally_of};
 ghost use Rattle.jac_replies.specs.Failed.{status_of_stop};
 ghost use Rattle.jac_command_base.specs.Files.{IsUnopened};
 ghost use Rattle.jac_serve_events.specs.Line.{lines_of};
 ghost use Rattle.jac_replies.specs.Spelled.{audit_rest, audit_text};
 ghost use Rattle.jac_serve_events.specs.Dispatcher.{MayServe, KeepsDispatcher, kept};
-ghost use Rattle.jac_serve_events.specs.RunSeen.{run_seen_of};
+ghost use Rattle.jac_serve_events.specs.RunSeen.{run_counts, run_seen_of};
 ghost use Rattle.jac_serve_events.specs.Outside.{Went, WentAimed, WentTo, sinks, span};
 ghost use Rattle.jac_serve_events.specs.Script.{script_of};
 
@@ -100,6 +100,8 @@ fn answer_counted<K: Keeper, L: Ledger, M: Ledger>(
         ask.now c.audit c.tally) }
     ensures reading { stores (whose dispatcher.old).app ask.now ≡ false
         → dispatcher.new.splits.now ≡ dispatcher.old.splits.now }
+    ensures cached { AreKeptFor ask.now.viewer dispatcher.old.viewer_caches.now
+        dispatcher.new.viewer_caches.now }
     ensures refused { IsTrue (K.seen dispatcher.new.keeper.now).tells
         → OnErr result ((K.seen dispatcher.new.keeper.now).state ≡
         (K.seen dispatcher.old.keeper.now).state) }
@@ -135,6 +137,9 @@ fn count_ask<K: Keeper, L: Ledger, M: Ledger>(
         asking.now.viewer asking.now.method.now
         asking.now.path.now asking.now.query.now asking.now.body.now) ≡ false
         → dispatcher.new.splits.now ≡ dispatcher.old.splits.now }
+    ensures cached { AreKeptFor (ask_in (whose dispatcher.old).app asking.now.viewer
+        asking.now.method.now asking.now.path.now asking.now.query.now asking.now.body.now).viewer
+        dispatcher.old.viewer_caches.now dispatcher.new.viewer_caches.now }
     ensures refused { IsTrue (K.seen dispatcher.new.keeper.now).tells
         → OnErr result ((K.seen dispatcher.new.keeper.now).state ≡
         (K.seen dispatcher.old.keeper.now).state) }
@@ -383,9 +388,9 @@ fn serve_over<U: AuditSink, K: Vault, L: Ledger, M: Ledger>(
     requires start { IsTrue (K.seen vault.old).tells → IsStart (application_of service.now)
         (K.seen vault.old).state }
     ensures served { WentTo (span (U.seen audit.old) (U.seen audit.new))
-        (Tallies (application_of service.now)
-        (span (run_seen_of (K.seen vault.old) splits.old) (run_seen_of (K.seen vault.new)
-        splits.new))
+        (TalliesLeaving (application_of service.now)
+        (span (run_seen_of (K.seen vault.old) (run_counts splits.old evaluations.old))
+        (run_seen_of (K.seen vault.new) (run_counts splits.new evaluations.new)))
         (demo_script count) result) }
     ensures cause { result ≡ Err DemoFault.Write
         → Rose (U.seen audit.old).faults (U.seen audit.new).faults }
@@ -423,11 +428,15 @@ fn tally_attached<U: AuditSink, K: Vault, L: Ledger, M: Ledger>(
     requires schema { IsSchema schema (shapes_of (application_of service.now)) }
     ensures served { WentTo (span (U.seen audit.old) (U.seen audit.new))
         (EndsTallying (application_of service.now)
-        (span (run_seen_of (K.seen vault.old) counts.old.splits.now)
-        (run_seen_of (K.seen vault.new) counts.new.splits.now)) count result) }
+        (span (run_seen_of (K.seen vault.old)
+        (run_counts counts.old.splits.now counts.old.evaluations.now))
+        (run_seen_of (K.seen vault.new)
+        (run_counts counts.new.splits.now counts.new.evaluations.now))) count result) }
     ensures cause { result ≡ Err exits.WriteFault
         → Rose (U.seen audit.old).faults (U.seen audit.new).faults }
     ensures same_splits { counts.new.splits.ghost_name ≡ counts.old.splits.ghost_name }
+    ensures same_evaluations { counts.new.evaluations.ghost_name
+        ≡ counts.old.evaluations.ghost_name }
 {
     match attach(counts.alloc, service, None, schema, vault) {
         Ok(()) => match serve_over(
@@ -466,9 +475,13 @@ fn tell_attached<O: Sink, U: AuditSink, K: Vault, L: Ledger, M: Ledger>(
         (U.seen audit.new))
         (IsDemoTold (sinks (O.seen out.old) (O.seen out.new) (U.seen audit.old) (U.seen audit.new))
         (application_of service.now)
-        (span (run_seen_of (K.seen vault.old) counts.old.splits.now)
-        (run_seen_of (K.seen vault.new) counts.new.splits.now)) count result) }
+        (span (run_seen_of (K.seen vault.old)
+        (run_counts counts.old.splits.now counts.old.evaluations.now))
+        (run_seen_of (K.seen vault.new)
+        (run_counts counts.new.splits.now counts.new.evaluations.now))) count result) }
     ensures same_splits { counts.new.splits.ghost_name ≡ counts.old.splits.ghost_name }
+    ensures same_evaluations { counts.new.evaluations.ghost_name
+        ≡ counts.old.evaluations.ghost_name }
 {
     match tally_attached(service, schema, count, audit, vault, counts) {
         Ok(summary) => match put_summary(out, &summary) {
@@ -499,9 +512,13 @@ fn count_calendar<O: Sink, U: AuditSink, K: Vault, L: Ledger, M: Ledger>(
         (EndsCounting
         (sinks (O.seen out.old) (O.seen out.new) (U.seen audit.old) (U.seen audit.new))
         (application_of service.now)
-        (span (run_seen_of (K.seen vault.old) counts.old.splits.now)
-        (run_seen_of (K.seen vault.new) counts.new.splits.now)) count result) }
+        (span (run_seen_of (K.seen vault.old)
+        (run_counts counts.old.splits.now counts.old.evaluations.now))
+        (run_seen_of (K.seen vault.new)
+        (run_counts counts.new.splits.now counts.new.evaluations.now))) count result) }
     ensures same_splits { counts.new.splits.ghost_name ≡ counts.old.splits.ghost_name }
+    ensures same_evaluations { counts.new.evaluations.ghost_name
+        ≡ counts.old.evaluations.ghost_name }
 {
     match audit.aim(None) {
         Ok(()) => tell_attached(service, schema, count, out, audit, vault, counts),
@@ -547,9 +564,13 @@ pub fn demo<O: Sink, U: AuditSink, K: Vault, L: Ledger, M: Ledger>(
     ensures ends { WentAimed (sinks (O.seen out.old) (O.seen out.new) (U.seen audit.old)
         (U.seen audit.new))
         (EndsDemo (sinks (O.seen out.old) (O.seen out.new) (U.seen audit.old) (U.seen audit.new))
-        (span (run_seen_of (K.seen vault.old) counts.old.splits.now)
-        (run_seen_of (K.seen vault.new) counts.new.splits.now)) count result) }
+        (span (run_seen_of (K.seen vault.old)
+        (run_counts counts.old.splits.now counts.old.evaluations.now))
+        (run_seen_of (K.seen vault.new)
+        (run_counts counts.new.splits.now counts.new.evaluations.now))) count result) }
     ensures same_splits { counts.new.splits.ghost_name ≡ counts.old.splits.ghost_name }
+    ensures same_evaluations { counts.new.evaluations.ghost_name
+        ≡ counts.old.evaluations.ghost_name }
 {
     let service = match open_calendar(counts.alloc) {
         Ok(service) => service,

@@ -3,8 +3,9 @@ ghost use Rattle.std.specs.Prelude.{◌≡◌, ◌<◌, ◌^◌, Err, IsTrue};
 ghost use Rattle.jac_io.specs.Faults.{Rose};
 ghost use Rattle.jac_lang.specs.Mirror.{application_of};
 ghost use Rattle.jac_engine.specs.Start.{IsStart};
-ghost use Rattle.jac_connections.specs.Link.{as_sink, IsLinkServed};
-ghost use Rattle.jac_serve_events.specs.RunSeen.{run_seen_of};
+ghost use Rattle.jac_connections.specs.Link.{as_sink};
+ghost use Rattle.jac_app.specs.Server.{IsLinkServedLeaving};
+ghost use Rattle.jac_serve_events.specs.RunSeen.{run_counts, run_seen_of};
 ghost use Rattle.jac_serve_events.specs.Outside.{Went, sinks, span};
 ghost use Rattle.jac_dispatch.specs.Answered.{answer_spec_of};
 
@@ -42,10 +43,10 @@ pub fn serve_link<N: Link, U: AuditSink, K: Keeper, L: Ledger, M: Ledger>(
         (K.seen keeper.old).state }
     ensures served { Went (sinks (as_sink (N.seen link.old)) (as_sink (N.seen link.new))
         (U.seen audit.old) (U.seen audit.new))
-        (IsLinkServed (answer_spec_of lazy (application_of service.now) sessions.now) conn first
-        (span (N.seen link.old) (N.seen link.new))
-        (span (run_seen_of (K.seen keeper.old) splits.old) (run_seen_of
-        (K.seen keeper.new) splits.new)) result) }
+        (IsLinkServedLeaving (answer_spec_of lazy (application_of service.now) sessions.now) conn
+        first (span (N.seen link.old) (N.seen link.new))
+        (span (run_seen_of (K.seen keeper.old) (run_counts splits.old evaluations.old))
+        (run_seen_of (K.seen keeper.new) (run_counts splits.new evaluations.new))) result) }
     ensures cause { result ≡ Err Halt.Write
         → Rose (U.seen audit.old).faults (U.seen audit.new).faults }
     ensures start { IsTrue (K.seen keeper.new).tells → IsStart (application_of service.now)

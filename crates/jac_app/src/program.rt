@@ -1,5 +1,6 @@
 ghost use Rattle.std.specs.Prelude.{◌≡◌, IsTrue, IfOk, IfSome, codes, false};
 ghost use Rattle.jac_serve_events.specs.Outside.{WentAimed, span, sinks};
+ghost use Rattle.jac_serve_events.specs.RunSeen.{run_counts};
 ghost use Rattle.jac_cli.specs.Commands.{HasCount};
 ghost use Rattle.jac_command_base.specs.Files.{sight};
 ghost use Rattle.jac_command_base.specs.ExitReason.{Closed, Closes, Finishes};
@@ -79,9 +80,12 @@ fn take_steps<F: Files, O: Sink, U: AuditSink, K: Vault, D: Door, L: Ledger, M: 
         (O.seen out.new) (U.seen audit.old) (U.seen audit.new) (K.seen vault.old)
         (K.seen vault.new))
         (span (D.seen door.old) (D.seen door.new))
-        (span counts.old.splits.now counts.new.splits.now) command.now result) }
+        (span (run_counts counts.old.splits.now counts.old.evaluations.now)
+        (run_counts counts.new.splits.now counts.new.evaluations.now)) command.now result) }
     ensures lasts { DoorLasts (D.seen door.old) (D.seen door.new) }
     ensures same_splits { counts.new.splits.ghost_name ≡ counts.old.splits.ghost_name }
+    ensures same_evaluations { counts.new.evaluations.ghost_name
+        ≡ counts.old.evaluations.ghost_name }
 {
     match command {
         Command::Check(app) => check(counts.alloc, app, files, out, audit, vault),
@@ -127,9 +131,12 @@ fn run_words<F: Files, O: Sink, U: AuditSink, K: Vault, D: Door, L: Ledger, M: L
         (O.seen out.new) (U.seen audit.old) (U.seen audit.new) (K.seen vault.old)
         (K.seen vault.new))
         (span (D.seen door.old) (D.seen door.new))
-        (span counts.old.splits.now counts.new.splits.now) words.now result) }
+        (span (run_counts counts.old.splits.now counts.old.evaluations.now)
+        (run_counts counts.new.splits.now counts.new.evaluations.now)) words.now result) }
     ensures lasts { DoorLasts (D.seen door.old) (D.seen door.new) }
     ensures same_splits { counts.new.splits.ghost_name ≡ counts.old.splits.ghost_name }
+    ensures same_evaluations { counts.new.evaluations.ghost_name
+        ≡ counts.old.evaluations.ghost_name }
 {
     match command_of(counts.alloc, words) {
         Ok(Some(command)) => {
@@ -156,8 +163,11 @@ fn run_counted<F: Files, O: Sink, U: AuditSink, K: Vault, D: Door, L: Ledger, M:
         (O.seen out.new) (U.seen audit.old) (U.seen audit.new) (K.seen vault.old)
         (K.seen vault.new))
         (span (D.seen door.old) (D.seen door.new))
-        (span counts.old.splits.now counts.new.splits.now) words.now result }
+        (span (run_counts counts.old.splits.now counts.old.evaluations.now)
+        (run_counts counts.new.splits.now counts.new.evaluations.now)) words.now result }
     ensures same_splits { counts.new.splits.ghost_name ≡ counts.old.splits.ghost_name }
+    ensures same_evaluations { counts.new.evaluations.ghost_name
+        ≡ counts.old.evaluations.ghost_name }
 {
     run_words(words, files, out, audit, vault, door, counts)
 }
@@ -205,7 +215,9 @@ pub fn run<F: Files, O: Sink, U: AuditSink, K: Vault, D: Door, L: Ledger, M: Led
     ensures { IsRun D.Line.seen (sight (F.seen files.old) (F.seen files.new) (O.seen out.old)
         (O.seen out.new) (U.seen audit.old) (U.seen audit.new) (K.seen vault.old)
         (K.seen vault.new))
-        (span (D.seen door.old) (D.seen door.new)) (span splits.old splits.new) words.now result }
+        (span (D.seen door.old) (D.seen door.new))
+        (span (run_counts splits.old evaluations.old) (run_counts splits.new evaluations.new))
+        words.now result }
 {
     let mut counts = Counts {
         splits,

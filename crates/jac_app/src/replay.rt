@@ -2,7 +2,7 @@ ghost use Rattle.std.specs.Prelude.{◌≡◌, ◌<◌, ◌^◌, length, IsTrue,
 ghost use Rattle.jac_lang.specs.Mirror.{application_of};
 ghost use Rattle.jac_engine.specs.Start.{IsStart};
 ghost use Rattle.jac_serve_events.specs.Dispatcher.{MayServe, KeepsDispatcher, kept};
-ghost use Rattle.jac_serve_events.specs.RunSeen.{run_seen_of};
+ghost use Rattle.jac_serve_events.specs.RunSeen.{run_counts, run_seen_of};
 ghost use Rattle.jac_dispatch.specs.Answered.{answer_spec, answer_spec_of};
 ghost use Rattle.jac_dispatch.specs.Seen.{dispatcher_seen};
 ghost use Rattle.jac_serve_events.specs.Outside.{WentAimed, WentWith, span, sinks};
@@ -10,7 +10,7 @@ ghost use Rattle.jac_cli.specs.declared.words.Command.TheVariants as commands;
 ghost use Rattle.jac_serve_events.specs.Script.{script_of};
 ghost use Rattle.jac_command_base.specs.ExitReason.{exit_reason_of};
 ghost use Rattle.jac_command_base.specs.Files.{sight};
-ghost use Rattle.jac_app.specs.Replay.{EndsServed, EndsReplay};
+ghost use Rattle.jac_app.specs.Replay.{EndsServed, EndsServedLeaving, EndsReplay};
 
 use crate::counts::Counts;
 use jac_cli::Replay;
@@ -83,10 +83,10 @@ fn serve_over<O: Sink, U: AuditSink, K: Vault, L: Ledger, M: Ledger>(
         → IsStart (application_of served.now.opened.now.service) (K.seen vault.old).state }
     ensures served { WentWith (sinks (O.seen out.old) (O.seen out.new) (U.seen audit.old)
         (U.seen audit.new))
-        (EndsServed (answer_spec_of served.now.lazy (application_of served.now.opened.now.service)
-        served.now.opened.now.sessions)
-        (span (run_seen_of (K.seen vault.old) splits.old) (run_seen_of (K.seen vault.new)
-        splits.new))
+        (EndsServedLeaving (answer_spec_of served.now.lazy
+        (application_of served.now.opened.now.service) served.now.opened.now.sessions)
+        (span (run_seen_of (K.seen vault.old) (run_counts splits.old evaluations.old))
+        (run_seen_of (K.seen vault.new) (run_counts splits.new evaluations.new)))
         (script_of served.now.opened.now.events) result) }
     ensures store { (K.seen vault.new).store ≡ (K.seen vault.old).store }
 {
@@ -120,8 +120,12 @@ pub fn replay<F: Files, O: Sink, U: AuditSink, K: Vault, L: Ledger, M: Ledger>(
         (U.seen audit.new))
         (EndsReplay (sight (F.seen files.old) (F.seen files.new) (O.seen out.old) (O.seen out.new)
         (U.seen audit.old) (U.seen audit.new) (K.seen vault.old) (K.seen vault.new))
-        (span counts.old.splits.now counts.new.splits.now) (commands.Replay command.now) result) }
+        (span (run_counts counts.old.splits.now counts.old.evaluations.now)
+        (run_counts counts.new.splits.now counts.new.evaluations.now))
+        (commands.Replay command.now) result) }
     ensures same_splits { counts.new.splits.ghost_name ≡ counts.old.splits.ghost_name }
+    ensures same_evaluations { counts.new.evaluations.ghost_name
+        ≡ counts.old.evaluations.ghost_name }
 {
     let opening = StoreCommand::Replay(command);
     let opened = match open_store(counts.alloc, opening, files, audit, vault) {

@@ -6,10 +6,10 @@ ghost use Rattle.jac_engine.specs.Start.{IsStart};
 ghost use Rattle.jac_serve_events.specs.Dispatcher.{MayServe, KeepsDispatcher, kept};
 ghost use Rattle.jac_dispatch.specs.Answered.{answer_spec, answer_spec_of};
 ghost use Rattle.jac_dispatch.specs.Seen.{dispatcher_seen};
-ghost use Rattle.jac_serve_events.specs.RunSeen.{run_seen_of};
+ghost use Rattle.jac_serve_events.specs.RunSeen.{run_counts, run_seen_of};
 ghost use Rattle.jac_serve_events.specs.Outside.{IsPut, WentAimed, WentWith, span, sinks};
 ghost use Rattle.jac_command_base.specs.Files.{sight};
-ghost use Rattle.jac_app.specs.Server.{served_line, exit_reason_of_halt, EndsConnections, EndsDoor, EndsServer};
+ghost use Rattle.jac_app.specs.Server.{served_line, exit_reason_of_halt, EndsConnections, EndsDoor, EndsDoorLeaving, EndsServer};
 
 use crate::counts::Counts;
 use itoa::Buffer;
@@ -135,11 +135,11 @@ fn serve_over<O: Sink, U: AuditSink, K: Vault, D: Door, L: Ledger, M: Ledger>(
         → IsStart (application_of served.now.opened.now.service) (K.seen vault.old).state }
     ensures served { WentWith (sinks (O.seen out.old) (O.seen out.new) (U.seen audit.old)
         (U.seen audit.new))
-        (EndsDoor D.Line.seen (application_of served.now.opened.now.service)
+        (EndsDoorLeaving D.Line.seen (application_of served.now.opened.now.service)
         served.now.opened.now.sessions served.now.serving.now
         (span (D.seen door.old) (D.seen door.new))
-        (span (run_seen_of (K.seen vault.old) splits.old) (run_seen_of (K.seen vault.new)
-        splits.new))
+        (span (run_seen_of (K.seen vault.old) (run_counts splits.old evaluations.old))
+        (run_seen_of (K.seen vault.new) (run_counts splits.new evaluations.new)))
         result) }
     ensures lasts { DoorLasts (D.seen door.old) (D.seen door.new) }
     ensures store { (K.seen vault.new).store ≡ (K.seen vault.old).store }
@@ -178,9 +178,12 @@ pub fn serve<F: Files, O: Sink, U: AuditSink, K: Vault, D: Door, L: Ledger, M: L
         (O.seen out.new) (U.seen audit.old) (U.seen audit.new) (K.seen vault.old)
         (K.seen vault.new))
         (span (D.seen door.old) (D.seen door.new))
-        (span counts.old.splits.now counts.new.splits.now) serving.now result) }
+        (span (run_counts counts.old.splits.now counts.old.evaluations.now)
+        (run_counts counts.new.splits.now counts.new.evaluations.now)) serving.now result) }
     ensures lasts { DoorLasts (D.seen door.old) (D.seen door.new) }
     ensures same_splits { counts.new.splits.ghost_name ≡ counts.old.splits.ghost_name }
+    ensures same_evaluations { counts.new.evaluations.ghost_name
+        ≡ counts.old.evaluations.ghost_name }
 {
     let opening = StoreCommand::Serve(serving);
     let opened = match open_store(counts.alloc, opening, files, audit, vault) {

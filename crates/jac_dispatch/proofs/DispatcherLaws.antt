@@ -21,7 +21,7 @@ lawful of = record {
 
 -- after an answer that was made, and where none was, a dispatcher may serve again
 module _ (before after : DispatcherSeen DispatcherOf) (same : after.of ≡ before.of) (stays : after.run_seen.keeper.store ≡ before.run_seen.keeper.store)
-    (settled : AreValidCaches before.of.app after.run_seen.keeper after.viewer_caches) where
+    (settled : AreValidCaches before.of.app after.run_seen.keeper after.run_seen.viewer_caches) where
   pub keeps-made : (IsTrue after.run_seen.keeper.tells → IsStart before.of.app after.run_seen.keeper.state) → KeepsDispatcher answer_spec before after
   keeps-made start = record { same = same; store = stays; ready = start; settled = settled }
 

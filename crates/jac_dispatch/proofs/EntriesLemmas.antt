@@ -1,5 +1,5 @@
 -- Subjects that are answered one after another.
-use Rattle.std.proofs.Common.{◌≡◌, ◌∙◌, ap, sym, subst, refl, ℕ, ◌+◌, ◌&&◌, not, Bool, true, false, IsTrue, List, [], ◌∷◌, ◌++◌, arith}
+use Rattle.std.proofs.Common.{◌≡◌, ◌∙◌, ap, sym, subst, refl, ℕ, ◌+◌, ◌&&◌, not, Bool, true, false, IsTrue, Option, List, [], ◌∷◌, ◌++◌, inl, inr, arith}
 use Rattle.std.proofs.lemmas.Bool.{and_from, and_parts}
 use Rattle.jac_lang.specs.Syntax.{Application}
 use Rattle.jac_rows.specs.Project.{project_at}
@@ -7,10 +7,13 @@ use Rattle.jac_rows.specs.declared.plain.PlainState.{PlainState}
 use Rattle.jac_plain.specs.Requests.{Worlds}
 use Rattle.jac_engine.specs.Start.{IsStart}
 use Rattle.jac_serve_events.specs.RunSeen.{Grew, RunSeen}
-use Rattle.jac_serve_events.specs.AnswerSpec.{LogEntry}
+use Rattle.jac_serve_events.specs.AnswerSpec.{LogEntry, is_failure}
+use Rattle.jac_serve_events.specs.Log.{viewer_of_subject}
 use Rattle.jac_dispatch.specs.Log.{AreFormed, AreAnswered, after_entry, after_log, is_unstored, is_unsplit, faults_in}
-use Rattle.jac_serve_events.specs.Outside.{span}
-use Rattle.jac_dispatch.specs.Answered.{IsEntryOf, AreEntries}
+use Rattle.jac_serve_events.specs.Outside.{Span, span}
+use Rattle.jac_viewer_caches.specs.CacheEntries.{entry_of}
+use Rattle.jac_viewer_caches.specs.declared.viewer_caches.ViewerEntry.{ViewerEntry}
+use Rattle.jac_dispatch.specs.Answered.{IsEntryOf, AreEntries, HasNoCache, AreKeptFor, HasNoEntry, AreAnsweredInTurn, IsFewInTurn, AreFewAtFirst}
 use Rattle.jac_plain.specs.Shown.{worlds_of}
 
 after_log-append : (w : ℕ → Bool) (app : Application) (xs ys : List LogEntry) (t : PlainState) → after_log w app (xs ++ ys) t ≡ after_log w app ys (after_log w app xs t)
@@ -53,6 +56,56 @@ faults_in-append (x ∷ xs) ys = omega (arith, faults_in-append xs ys)
 grew_then : (before middle after one two : ℕ) → Grew before one middle → Grew middle two after → Grew before (one + two) after
 grew_then before middle after one two first second = omega (arith, first, second)
 
+-- ---- the first answer to each viewer
+
+-- what tells after some entries told before them
+told_before : (lazy : Bool) (app : Application) (a c : RunSeen) (log : List LogEntry) → AreAnsweredInTurn lazy app a log c → IsTrue c.keeper.tells → IsTrue a.keeper.tells
+told_before lazy app a c [] same told = subst (λ (k : RunSeen). IsTrue k.keeper.tells) same told
+told_before lazy app a c (entry ∷ log) turn told = turn.1.told (told_before lazy app turn.0 c log turn.2 told)
+
+-- an entry of somebody else leaves nothing for a viewer for whom nothing was kept
+none_after : (viewer other : Option ℕ) (before after : List ViewerEntry) → AreKeptFor other before after → ¬ (other ≡ viewer) → HasNoCache viewer before → HasNoCache viewer after
+none_after viewer other before after kept differ nothing = record {
+  none = λ cache is.
+      elim (kept.each (entry_of viewer cache) is) [
+        | inl same ↦ differ (sym same)
+        | inr was ↦ nothing.none was.0 was.1
+      ];
+}
+
+few_from : (lazy : Bool) (app : Application) (a c : RunSeen) (before later : List LogEntry) (entry : LogEntry) → AreAnsweredInTurn lazy app a (before ++ entry ∷ later) c
+    → HasNoCache (viewer_of_subject entry.subject) a.viewer_caches → HasNoEntry (viewer_of_subject entry.subject) before → is_failure entry.answer ≡ false
+    → (own : Span RunSeen) × IsFewInTurn lazy app (span a c) own before entry later
+few_from lazy app a c [] later entry turn nothing none answered = (
+  span a turn.0,
+  record {
+    earlier = refl;
+    answered = turn.1;
+    behind = turn.2;
+    few = λ eager told. (turn.1.bounded answered).few eager (told_before lazy app turn.0 c later turn.2 told) nothing;
+  },
+)
+few_from lazy app a c (x ∷ before) later entry turn nothing none answered =
+    let viewer = viewer_of_subject entry.subject in
+    let after = none_after viewer (viewer_of_subject x.subject) a.viewer_caches turn.0.viewer_caches turn.1.kept none.0 nothing in
+    let rest = few_from lazy app turn.0 c before later entry turn.2 after none.1 answered in (
+      rest.0,
+      record { earlier = (turn.0, turn.1, rest.1.earlier); answered = rest.1.answered; behind = rest.1.behind; few = rest.1.few },
+    )
+
+pub few_at_first : (lazy : Bool) (app : Application) (a c : RunSeen) (log : List LogEntry) → AreAnsweredInTurn lazy app a log c → AreFewAtFirst lazy app (span a c) log
+few_at_first lazy app a c log turn = record {
+  each = λ before later entry parts nothing none answered.
+      few_from lazy app a c before later entry (subst (λ (l : List LogEntry). AreAnsweredInTurn lazy app a l c) parts turn) nothing none answered;
+}
+
+pub in_turn-append : (lazy : Bool) (app : Application) (a b c : RunSeen) (xs ys : List LogEntry)
+    → AreAnsweredInTurn lazy app a xs b → AreAnsweredInTurn lazy app b ys c → AreAnsweredInTurn lazy app a (xs ++ ys) c
+in_turn-append lazy app a b c [] ys one two = subst (λ (k : RunSeen). AreAnsweredInTurn lazy app k ys c) one two
+in_turn-append lazy app a b c (x ∷ xs) ys one two = (one.0, one.1, in_turn-append lazy app one.0 b c xs ys one.2 two)
+
+-- ---- entries
+
 pub entries-none : (lazy : Bool) (app : Application) (a : RunSeen) → (IsTrue a.keeper.tells → IsStart app a.keeper.state) → AreEntries lazy app (span a a) []
 entries-none lazy app a start = record {
   formed = tt;
@@ -63,6 +116,8 @@ entries-none lazy app a start = record {
   good = λ told good. good;
   unstored = λ told none. refl;
   unsplit = λ none. refl;
+  in_turn = refl;
+  few = few_at_first lazy app a a [] refl;
   faults = omega arith;
 }
 
@@ -77,6 +132,8 @@ entries-one lazy app a b entry one = record {
   good = one.good;
   unstored = λ told none. one.unstored told (not_alone _ none);
   unsplit = λ none. one.unsplit (not_alone _ none);
+  in_turn = (b, one, refl);
+  few = few_at_first lazy app a b (entry ∷ []) (b, one, refl);
   faults = let f = one.faults in omega (arith, f);
 }
 
@@ -107,6 +164,8 @@ entries-then lazy app a b c xs ys one two = record {
   unsplit = λ none.
       let parts = unsplit-append app xs ys none in
       two.unsplit parts.1 ∙ one.unsplit parts.0;
+  in_turn = in_turn-append lazy app a b c xs ys one.in_turn two.in_turn;
+  few = few_at_first lazy app a c (xs ++ ys) (in_turn-append lazy app a b c xs ys one.in_turn two.in_turn);
   faults =
       subst (λ (n : ℕ). Grew a.keeper.faults n c.keeper.faults) (sym (faults_in-append xs ys))
       (grew_then a.keeper.faults b.keeper.faults c.keeper.faults (faults_in xs) (faults_in ys) one.faults two.faults);

@@ -35,7 +35,8 @@ use Rattle.jac_serve_events.specs.RunSeen.{Grew, RunSeen}
 use Rattle.jac_serve_events.specs.AnswerSpec.{LogSubject, is_failure}
 use Rattle.jac_dispatch.specs.Log.{HasFailed, IsAnswer, IsFormed, may_split, left_of, refused_with, is_fault_answer}
 use Rattle.jac_serve_events.specs.Outside.{Span}
-use Rattle.jac_dispatch.specs.Answered.{IsAnswerMade, IsEntryOf}
+use Rattle.jac_viewer_caches.specs.declared.viewer_caches.ViewerEntry.{ViewerEntry}
+use Rattle.jac_dispatch.specs.Answered.{IsAnswerMade, IsEntryOf, AsksFewAtFirst, AreKeptFor}
 use Rattle.jac_plain.specs.Shown.{worlds_of}
 
 -- what leaves a start may be stored
@@ -126,6 +127,19 @@ no_fault a h = no_fault_status (a.status == 500) (a.status == 503) (is_none a.sh
 grew_by_none : (before now : ℕ) (fault : Bool) → fault ≡ false → before ≤ now → Grew before (if fault then 1 else 0) now
 grew_by_none before now fault none later = rw none (omega arith)
 
+-- nothing was evaluated
+asks_none : (lazy tells : Bool) (app : Application) (s : State) (viewer : Option ℕ) (viewer_caches : List ViewerEntry) (n : ℕ) → AsksFewAtFirst lazy tells app s viewer viewer_caches n n
+asks_none lazy tells app s viewer viewer_caches n = record { few = λ eager told nothing. record { few = λ local labels ascending live. omega arith } }
+
+-- the same is kept
+pub kept_all : (viewer : Option ℕ) (viewer_caches : List ViewerEntry) → AreKeptFor viewer viewer_caches viewer_caches
+kept_all viewer viewer_caches = record { each = λ s is. inr (s.cache, is) }
+
+-- a failure is none that is bounded
+failed_unbounded : {P : Type 0} (stop : Stop) → is_failure (refusal (status_of_stop stop) None) ≡ false → P
+failed_unbounded stops.Keeper h = absurd cc
+failed_unbounded stops.Memory h = absurd cc
+
 -- the answer to a request was made
 pub is_made : (lazy : Bool) (app : Application) (k : Span RunSeen) (via : RequestSource) (ask : Ask) (close : Bool) (reply audit : List ℕ)
     → (made : IsAnswerMade lazy app k via ask reply audit) → (IsTrue k.after.keeper.tells → IsTrue k.before.keeper.tells)
@@ -139,6 +153,8 @@ is_made lazy app k via ask close reply audit made told later = record {
   good = made.good;
   unstored = made.unstored;
   unsplit = λ none. made.unsplit (or_parts _ _ none).0;
+  bounded = λ answered. made.bounded;
+  kept = made.kept;
   faults = grew_by_none _ _ _ (no_fault made.answer (servable lazy app ask made.answer made.form).answered) later;
 }
 
@@ -167,8 +183,9 @@ pub is_failed : (lazy : Bool) (app : Application) (k : Span RunSeen) (ask : Ask)
     → (IsTrue k.after.keeper.tells → k.after.keeper.state ≡ k.before.keeper.state) → (stores app ask ≡ false → k.after.splits ≡ k.before.splits)
     → (IsTrue k.after.keeper.tells → IsTrue k.before.keeper.tells) → (IsTrue k.before.keeper.tells → IsStart app k.before.keeper.state)
     → k.before.keeper.faults ≤ k.after.keeper.faults → (stop ≡ stops.Keeper → Rose k.before.keeper.faults k.after.keeper.faults)
+    → AreKeptFor ask.viewer k.before.viewer_caches k.after.viewer_caches
     → IsEntryOf lazy app k (whole ask close) (refusal (status_of_stop stop) None)
-is_failed lazy app k ask close stop same reading told start later rose = record {
+is_failed lazy app k ask close stop same reading told start later rose kept = record {
   formed = inl (has_failed stop);
   told = told;
   answered = λ tells. inl (has_failed stop);
@@ -179,6 +196,8 @@ is_failed lazy app k ask close stop same reading told start later rose = record 
   good = λ tells good. subst (λ (s : State). IsGood (shapes_of app) s) (sym (same tells)) good;
   unstored = λ tells none. same tells;
   unsplit = λ none. reading (failed_stores app ask close stop none);
+  bounded = λ answered. failed_unbounded stop answered;
+  kept = kept;
   faults = grew_if _ _ stop later rose;
 }
 
@@ -196,6 +215,8 @@ is_wanting lazy app k subject formed answered same start = record {
   good = λ tells good. good;
   unstored = λ tells none. refl;
   unsplit = λ none. refl;
+  bounded = λ answered. asks_none lazy k.keeper.tells app k.keeper.state _ k.viewer_caches k.evaluations;
+  kept = kept_all _ k.viewer_caches;
   faults = omega arith;
 }
 
@@ -214,5 +235,7 @@ is_refused lazy app k status named start = record {
   good = λ tells good. good;
   unstored = λ tells none. refl;
   unsplit = λ none. refl;
+  bounded = λ answered. asks_none lazy k.keeper.tells app k.keeper.state _ k.viewer_caches k.evaluations;
+  kept = kept_all _ k.viewer_caches;
   faults = grew_by_none _ _ _ (status_named status named) (omega arith);
 }

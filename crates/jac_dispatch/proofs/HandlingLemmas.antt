@@ -28,7 +28,7 @@ use Rattle.jac_replies.specs.Spelled.{spelled_bytes, audit_text}
 use Rattle.jac_engine.specs.Answers.{stores}
 use Rattle.jac_serve_events.specs.RunSeen.{RunSeen}
 use Rattle.jac_serve_events.specs.Outside.{span}
-use Rattle.jac_dispatch.specs.Answered.{IsAnswerMade, IsRefusalSent, answer_spec_of}
+use Rattle.jac_dispatch.specs.Answered.{IsAnswerMade, IsRefusalSent, AreKeptFor, answer_spec_of}
 use Rattle.jac_serve_events.specs.Serve.{Handles, sent_on, sent_audit}
 use Rattle.jac_dispatch.proofs.EntryLemmas.{is_made, is_failed, is_wanting, is_refused, servable}
 
@@ -120,8 +120,9 @@ pub failed-handled : (spelling : Spelling) (lazy : Bool) (app : Application) (se
     → (IsTrue b.keeper.tells → b.keeper.state ≡ a.keeper.state) → (stores app (request_in app sessions request) ≡ false → b.splits ≡ a.splits)
     → (IsTrue b.keeper.tells → IsTrue a.keeper.tells) → (IsTrue a.keeper.tells → IsStart app a.keeper.state)
     → a.keeper.faults ≤ b.keeper.faults → (stop ≡ stops.Keeper → Rose a.keeper.faults b.keeper.faults)
+    → AreKeptFor (request_in app sessions request).viewer a.viewer_caches b.viewer_caches
     → Handles spelling (answer_spec_of lazy app sessions) a c (Whole request) (Still status head viewer) b
-failed-handled spelling lazy app sessions a b c request stop status head viewer is is_head looks same reading told start later rose = (
+failed-handled spelling lazy app sessions a b c request stop status head viewer is is_head looks same reading told start later rose kept = (
   refusal (status_of_stop stop) None,
   record {
     line =
@@ -130,6 +131,6 @@ failed-handled spelling lazy app sessions a b c request stop status head viewer 
         ∙ ap (λ (h : Bool). spelled_bytes spelling c (reply_bytes (status_of_stop stop) None None (refusal (status_of_stop stop) None).body false h (request.close || is_failure (refusal (status_of_stop stop) None)))) is_head;
     audit = λ n. ap (λ (s : ℕ). audit_text n s viewer None None) is ∙ ap (λ (v : Option ℕ). audit_text n (status_of_stop stop) v None None) looks;
     closing = failed_closes stop;
-    entry = is_failed lazy app (span a b) (request_in app sessions request) request.close stop same reading told start later rose;
+    entry = is_failed lazy app (span a b) (request_in app sessions request) request.close stop same reading told start later rose kept;
   },
 )

@@ -1,5 +1,5 @@
 -- What is kept for those who looked, after an answer.
-use Rattle.std.proofs.Common.{◌≡◌, sym, subst, ℕ, Bool, IsTrue, IfSome, ◌⊎◌, inl, inr, Option, Some, None, List, []}
+use Rattle.std.proofs.Common.{◌≡◌, ap, sym, subst, ℕ, Bool, IsTrue, IfSome, ◌⊎◌, inl, inr, Option, Some, None, List, []}
 use Rattle.jac_lang.specs.Syntax.{Application}
 use Rattle.jac_rows.specs.Good.{IsGood}
 use Rattle.jac_rows.specs.Project.{project_at}
@@ -12,6 +12,7 @@ use Rattle.jac_policy_cache.specs.declared.viewer_cache.ViewerCache.{ViewerCache
 use Rattle.jac_policy_cache.specs.declared.invalidation.Invalidation.{Invalidation}
 use Rattle.jac_policy_cache.specs.ViewerCache.{IsEmptyCache, Invalidates}
 use Rattle.jac_policy_cache.specs.Affected.{IsCovered}
+use Rattle.jac_resolve.specs.Rounds.{AreFewEvaluations}
 use Rattle.jac_resolve.specs.ValidCache.{IsValidCache}
 use Rattle.jac_replies.specs.declared.answer.Ask.{Ask}
 use Rattle.jac_engine.specs.Answers.{IsAnswerTo, world_left}
@@ -20,7 +21,7 @@ use Rattle.jac_engine.specs.Start.{IsStart}
 use Rattle.jac_engine.specs.declared.answer.Prepared.{Prepared}
 use Rattle.jac_viewer_caches.specs.CacheEntries.{IsOneOf, entry_of}
 use Rattle.jac_viewer_caches.specs.declared.viewer_caches.ViewerEntry.{ViewerEntry}
-use Rattle.jac_dispatch.specs.Answered.{DispatcherOf, AreValidCaches, AreAffected, AreInvalidatedIf, HasNoCache, IsPutBack}
+use Rattle.jac_dispatch.specs.Answered.{DispatcherOf, AreValidCaches, AreAffected, AreInvalidatedIf, HasNoCache, HasCache, AsksFewAtFirst, AreKeptFor, IsPutBack}
 use Rattle.jac_plain.specs.Shown.{worlds_of}
 
 none_in : {P : Type 0} (s : ViewerEntry) (viewer_caches : List ViewerEntry) → viewer_caches ≡ [] → IsOneOf s viewer_caches → P
@@ -133,3 +134,56 @@ prepared_after lazy a b app ask p tells told same is = record {
   start = λ on. subst (λ (s : State). IsStart app (applied_if p.change s)) (sym (same (told on))) (is.start on);
   good = λ on. subst (λ (s : State). IsGood (shapes_of app) s → IsGood (shapes_of app) (applied_if p.change s)) (sym (same (told on))) (is.good on);
 }
+
+-- policies were evaluated few times as the answer was prepared, and none as it was stored
+pub few_stored : (lazy told tells : Bool) (app : Application) (s later : State) (viewer : Option ℕ) (viewer_caches : List ViewerEntry) (before mid now : ℕ)
+    → (IsTrue tells → IsTrue told) → (IsTrue tells → later ≡ s) → now ≡ mid → AsksFewAtFirst lazy told app s viewer viewer_caches before mid
+    → AsksFewAtFirst lazy tells app later viewer viewer_caches before now
+few_stored lazy told tells app s later viewer viewer_caches before mid now telling same asked bounded = record {
+  few = λ eager is nothing.
+      subst (λ (n : ℕ). AreFewEvaluations app later viewer before n) (sym asked)
+      (subst (λ (x : State). AreFewEvaluations app x viewer before mid) (sym (same is)) (bounded.few eager (telling is) nothing));
+}
+
+-- ---- for whom something is kept
+
+pub kept_none : (viewer : Option ℕ) (before after : List ViewerEntry) → after ≡ [] → AreKeptFor viewer before after
+kept_none viewer before after none = record { each = λ s is. none_in s after none is }
+
+pub kept_fewer : (viewer : Option ℕ) (before after : List ViewerEntry) → ((s : ViewerEntry) → IsOneOf s after → IsOneOf s before) → AreKeptFor viewer before after
+kept_fewer viewer before after fewer = record { each = λ s is. inr (s.cache, fewer s is) }
+
+kept_as : (viewer owner : Option ℕ) (before mid : List ViewerEntry) → AreKeptFor viewer before mid → (owner ≡ viewer) ⊎ HasCache owner mid → (owner ≡ viewer) ⊎ HasCache owner before
+kept_as viewer owner before mid first (inl same) = inl same
+kept_as viewer owner before mid first (inr was) = first.each (entry_of owner was.0) was.1
+
+pub kept_then : (viewer : Option ℕ) (before mid after : List ViewerEntry) → AreKeptFor viewer before mid → AreKeptFor viewer mid after → AreKeptFor viewer before after
+kept_then viewer before mid after first second = record { each = λ s is. kept_as viewer s.viewer before mid first (second.each s is) }
+
+kept_invalidated : (viewer : Option ℕ) (invalidation : Option Invalidation) (old new : List ViewerEntry) → AreInvalidatedIf invalidation old new → AreKeptFor viewer old new
+kept_invalidated viewer None old new same = record { each = λ s is. inr (s.cache, subst (λ (xs : List ViewerEntry). IsOneOf s xs) same is) }
+kept_invalidated viewer (Some invalidation) old new invalidated = record {
+  each = λ s is.
+      let was = invalidated.each s is in
+      inr (was.before, was.kept);
+}
+
+kept_put : (viewer : Option ℕ) (cache : Option ViewerCache) (s : ViewerEntry) → IsPutBack viewer cache s → s.viewer ≡ viewer
+kept_put viewer None s put = absurd put
+kept_put viewer (Some cache) s put = ap (λ (x : ViewerEntry). x.viewer) put
+
+-- after a change that was stored, or refused
+module _ (viewer : Option ℕ) (invalidation : Option Invalidation) (old mid : List ViewerEntry) (invalidated : AreInvalidatedIf invalidation old mid) where
+  pub kept_refused : AreKeptFor viewer old mid
+  kept_refused = kept_invalidated viewer invalidation old mid invalidated
+
+  pub kept_stored : (cache : Option ViewerCache) (after : List ViewerEntry)
+      → ((x : ViewerEntry) → IsOneOf x after → IsPutBack viewer cache x ⊎ IsOneOf x mid) → AreKeptFor viewer old after
+  kept_stored cache after put =
+      kept_then viewer old mid after kept_refused (record {
+        each = λ s is.
+            elim (put s is) [
+              | inl it ↦ inl (kept_put viewer cache s it)
+              | inr was ↦ inr (s.cache, was)
+            ];
+      })

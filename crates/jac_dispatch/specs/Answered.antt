@@ -1,5 +1,5 @@
 -- How an application answers over a keeper.
-use Rattle.std.specs.Prelude.{◌≡◌, ℕ, ◌⊎◌, Bool, IsTrue, true, false, if◌then◌else◌, Option, Some, None, List, []}
+use Rattle.std.specs.Prelude.{◌≡◌, ℕ, ◌⊎◌, Bool, IsTrue, true, false, if◌then◌else◌, Option, Some, None, List, [], ◌∷◌, ◌++◌, ⊤}
 use Rattle.jac_lang.specs.Syntax.{Application}
 use Rattle.jac_rows.specs.Good.{IsGood}
 use Rattle.jac_rows.specs.Project.{project_at}
@@ -27,11 +27,11 @@ use Rattle.jac_rows.specs.declared.state.State.{State}
 use Rattle.jac_keep.specs.declared.alteration.Change.{Change}
 use Rattle.jac_viewer_caches.specs.CacheEntries.{AreInvalidated, IsOneOf, entry_of}
 use Rattle.jac_viewer_caches.specs.declared.viewer_caches.ViewerEntry.{ViewerEntry}
-use Rattle.jac_serve_events.specs.AnswerSpec.{LogSubject, LogEntry, AnswerSpec}
+use Rattle.jac_serve_events.specs.AnswerSpec.{LogSubject, LogEntry, AnswerSpec, is_failure}
 use Rattle.jac_serve_events.specs.Dispatcher.{DispatcherSeen}
-use Rattle.jac_serve_events.specs.RunSeen.{Grew, RunSeen, run_seen_of}
-use Rattle.jac_serve_events.specs.Log.{reply_on}
-use Rattle.jac_serve_events.specs.Outside.{Span}
+use Rattle.jac_serve_events.specs.RunSeen.{RunCounts, Grew, RunSeen, run_seen_with}
+use Rattle.jac_serve_events.specs.Log.{reply_on, viewer_of_subject}
+use Rattle.jac_serve_events.specs.Outside.{Span, span}
 use Rattle.jac_dispatch.specs.declared.answer.RequestSource.{RequestSource}
 use Rattle.jac_dispatch.specs.declared.answer.RequestSource.TheVariants as ways
 use Rattle.jac_dispatch.specs.Asked.{ask_in, request_in}
@@ -49,6 +49,27 @@ close_of (ways.Connection conn close spelling) = close
 abbrev pub spelling_of : RequestSource → Spelling
 spelling_of ways.Line = spellings.Quoted
 spelling_of (ways.Connection conn close spelling) = spelling
+
+-- nothing is kept for this viewer
+pub record HasNoCache (viewer : Option ℕ) (viewer_caches : List ViewerEntry) : Type 0 where
+  pub none : (cache : ViewerCache) → IsOneOf (entry_of viewer cache) viewer_caches → ⊥
+
+-- where all labels of a page are settled, the state is told, and nothing was kept for who asks,
+-- policies were evaluated few times for the live labels of the state
+pub record AsksFewAtFirst (lazy tells : Bool) (app : Application) (s : State) (viewer : Option ℕ)
+    (viewer_caches : List ViewerEntry) (before now : ℕ) : Type 0 where
+  pub few : lazy ≡ false → IsTrue tells → HasNoCache viewer viewer_caches
+      → AreFewEvaluations app s viewer before now
+
+-- something is kept for this viewer
+abbrev pub HasCache : Option ℕ → List ViewerEntry → Type 0
+HasCache viewer viewer_caches = (cache : ViewerCache) × IsOneOf (entry_of viewer cache)
+    viewer_caches
+
+-- what is kept is so for this viewer, or for one for whom something was kept
+pub record AreKeptFor (viewer : Option ℕ) (before after : List ViewerEntry) : Type 0 where
+  pub each : (s : ViewerEntry) → IsOneOf s after
+      → (s.viewer ≡ viewer) ⊎ HasCache s.viewer before
 
 -- a request was answered, and its answer stored; these are the line of its reply and what follows
 -- the number of its audit line
@@ -68,6 +89,9 @@ pub record IsAnswerMade (lazy : Bool) (app : Application) (k : Span RunSeen) (vi
   pub unstored : IsTrue k.after.keeper.tells → is_stored app ask answer ≡ false
       → k.after.keeper.state ≡ k.before.keeper.state
   pub unsplit : is_stored app ask answer ≡ false → k.after.splits ≡ k.before.splits
+  pub bounded : AsksFewAtFirst lazy k.after.keeper.tells app k.after.keeper.state ask.viewer
+      k.before.viewer_caches k.before.evaluations k.after.evaluations
+  pub kept : AreKeptFor ask.viewer k.before.viewer_caches k.after.viewer_caches
   pub reply_made : reply
       ≡ reply_on (spelling_of via) (source_of via) (whole ask (close_of via)) answer
   pub audit_made : audit ≡ audit_rest answer.status ask.viewer answer.shown answer.consulted
@@ -90,8 +114,48 @@ pub record IsEntryOf (lazy : Bool) (app : Application) (k : Span RunSeen) (subje
   pub unstored : IsTrue k.after.keeper.tells → is_stored_for app subject answer ≡ false
       → k.after.keeper.state ≡ k.before.keeper.state
   pub unsplit : may_split app subject answer ≡ false → k.after.splits ≡ k.before.splits
+  -- what is no failure took few evaluations, where nothing was kept for who asks; and who that is
+  -- alone may have something kept that had nothing before
+  pub bounded : is_failure answer ≡ false
+      → AsksFewAtFirst lazy k.after.keeper.tells app k.after.keeper.state
+      (viewer_of_subject subject) k.before.viewer_caches k.before.evaluations k.after.evaluations
+  pub kept : AreKeptFor (viewer_of_subject subject) k.before.viewer_caches k.after.viewer_caches
   pub faults : Grew k.before.keeper.faults (if is_fault_answer answer then 1
       else 0) k.after.keeper.faults
+
+-- each entry was answered on what the one before it left
+abbrev pub AreAnsweredInTurn : Bool → Application → RunSeen → List LogEntry → RunSeen → Type 0
+AreAnsweredInTurn lazy app before [] after = after ≡ before
+AreAnsweredInTurn lazy app before (entry ∷ log) after =
+    (between : RunSeen) × IsEntryOf lazy app (span before between) entry.subject entry.answer
+    × AreAnsweredInTurn lazy app between log after
+
+-- no entry is of this viewer
+abbrev pub HasNoEntry : Option ℕ → List LogEntry → Type 0
+HasNoEntry viewer [] = ⊤
+HasNoEntry viewer (entry ∷ log) =
+    ¬ (viewer_of_subject entry.subject ≡ viewer) × HasNoEntry viewer log
+
+-- an entry was answered between these two, after those before it and before the later ones; where
+-- all labels of a page are settled, and the state is told to the end, policies were evaluated few
+-- times between them for the live labels of the state that it left
+pub record IsFewInTurn (lazy : Bool) (app : Application) (k own : Span RunSeen)
+    (before : List LogEntry) (entry : LogEntry) (later : List LogEntry) : Type 0 where
+  pub earlier : AreAnsweredInTurn lazy app k.before before own.before
+  pub answered : IsEntryOf lazy app own entry.subject entry.answer
+  pub behind : AreAnsweredInTurn lazy app own.after later k.after
+  pub few : lazy ≡ false → IsTrue k.after.keeper.tells
+      → AreFewEvaluations app own.after.keeper.state (viewer_of_subject entry.subject)
+      own.before.evaluations own.after.evaluations
+
+-- so was each that is no failure and whose viewer has none before it, where nothing was kept for
+-- that viewer at the begin
+pub record AreFewAtFirst (lazy : Bool) (app : Application) (k : Span RunSeen) (log : List LogEntry)
+    : Type 0 where
+  pub each : (before later : List LogEntry) (entry : LogEntry) → log ≡ before ++ entry ∷ later
+      → HasNoCache (viewer_of_subject entry.subject) k.before.viewer_caches
+      → HasNoEntry (viewer_of_subject entry.subject) before → is_failure entry.answer ≡ false
+      → (own : Span RunSeen) × IsFewInTurn lazy app k own before entry later
 
 -- some subjects were answered one after another
 pub record AreEntries (lazy : Bool) (app : Application) (k : Span RunSeen) (log : List LogEntry)
@@ -108,6 +172,8 @@ pub record AreEntries (lazy : Bool) (app : Application) (k : Span RunSeen) (log 
   pub unstored : IsTrue k.after.keeper.tells → is_unstored app log ≡ true
       → k.after.keeper.state ≡ k.before.keeper.state
   pub unsplit : is_unsplit app log ≡ true → k.after.splits ≡ k.before.splits
+  pub in_turn : AreAnsweredInTurn lazy app k.before log k.after
+  pub few : AreFewAtFirst lazy app k log
   pub faults : Grew k.before.keeper.faults (faults_in log) k.after.keeper.faults
 
 -- what is sent for what is refused with this status, unless memory runs out
@@ -122,17 +188,6 @@ pub record AreValidCaches (app : Application) (k : KeeperSeen)
     (viewer_caches : List ViewerEntry) : Type 0 where
   pub each : IsTrue k.tells → (s : ViewerEntry) → IsOneOf s viewer_caches
       → IsValidCache app (worlds_of k.state) s.viewer s.cache
-
--- nothing is kept for this viewer
-pub record HasNoCache (viewer : Option ℕ) (viewer_caches : List ViewerEntry) : Type 0 where
-  pub none : (cache : ViewerCache) → IsOneOf (entry_of viewer cache) viewer_caches → ⊥
-
--- where all labels of a page are settled, the state is told, and nothing was kept for who asks,
--- policies were evaluated few times for the live labels of the state
-pub record AsksFewAtFirst (lazy tells : Bool) (app : Application) (s : State) (viewer : Option ℕ)
-    (viewer_caches : List ViewerEntry) (before now : ℕ) : Type 0 where
-  pub few : lazy ≡ false → IsTrue tells → HasNoCache viewer viewer_caches
-      → AreFewEvaluations app s viewer before now
 
 -- the change has its invalidation, or nothing is kept that it could affect
 abbrev pub AreAffected : Application → State → Option Change → Option Invalidation → List
@@ -162,22 +217,23 @@ answer_spec_of lazy app sessions = record {
 }
 
 -- whose a dispatcher is: an application's, with its sessions, whether a GET's page resolves only
--- what it consults, and the references to its keeper and to the count of facets that were split
+-- what it consults, and the references to its keeper and to the counts of facets that were split
+-- and of policies that were evaluated
 pub record DispatcherOf : Type 0 where
   pub app : Application
   pub sessions : List Session
   pub lazy : Bool
   pub keeper : ℕ
   pub splits : ℕ
+  pub evaluations : ℕ
 
 abbrev pub answer_spec : DispatcherOf → AnswerSpec
 answer_spec of = answer_spec_of of.lazy of.app of.sessions
 
 -- what contracts see of such a dispatcher
-abbrev pub dispatcher_of : DispatcherOf → KeeperSeen → ℕ → List ViewerEntry → DispatcherSeen
+abbrev pub dispatcher_of : DispatcherOf → KeeperSeen → RunCounts → List ViewerEntry → DispatcherSeen
     DispatcherOf
-dispatcher_of of keeper splits viewer_caches = record {
+dispatcher_of of keeper counts viewer_caches = record {
   of = of;
-  run_seen = run_seen_of keeper splits;
-  viewer_caches = viewer_caches;
+  run_seen = run_seen_with keeper counts viewer_caches;
 }

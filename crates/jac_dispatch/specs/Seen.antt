@@ -2,6 +2,7 @@
 use Rattle.jac_keep.specs.KeeperSeen.{KeeperSeen}
 use Rattle.jac_lang.specs.Mirror.{application_of}
 use Rattle.jac_serve_events.specs.Dispatcher.{DispatcherSeen}
+use Rattle.jac_serve_events.specs.RunSeen.{run_counts}
 use Rattle.jac_dispatch.specs.Answered.{DispatcherOf, dispatcher_of}
 use Rattle.jac_dispatch.specs.declared.handler.AppDispatcher.{AppDispatcher}
 
@@ -13,10 +14,11 @@ whose dispatcher = record {
   lazy = dispatcher.lazy;
   keeper = dispatcher.keeper.ghost_name;
   splits = dispatcher.splits.ghost_name;
+  evaluations = dispatcher.evaluations.ghost_name;
 }
 
 -- what is seen of it, where this is seen of its keeper
 abbrev pub dispatcher_seen : {K L M : Type 0} → (K → KeeperSeen) → AppDispatcher K L M →
     DispatcherSeen DispatcherOf
 dispatcher_seen seen dispatcher = dispatcher_of (whose dispatcher) (seen dispatcher.keeper.now)
-    dispatcher.splits.now dispatcher.viewer_caches.now
+    (run_counts dispatcher.splits.now dispatcher.evaluations.now) dispatcher.viewer_caches.now

@@ -15,7 +15,7 @@ ghost use Rattle.jac_serve_events.specs.AnswerSpec.{is_failure};
 ghost use Rattle.jac_serve_events.specs.Dispatcher.{kept};
 ghost use Rattle.jac_serve_events.specs.Log.{reply_on};
 ghost use Rattle.jac_replies.specs.Spelled.{audit_rest};
-ghost use Rattle.jac_dispatch.specs.Answered.{source_of, close_of, spelling_of, IsAnswerMade, AreValidCaches, AreAffected, AreInvalidatedIf, AsksFewAtFirst, IsPutBack};
+ghost use Rattle.jac_dispatch.specs.Answered.{source_of, close_of, spelling_of, IsAnswerMade, AreValidCaches, AreAffected, AreInvalidatedIf, AreKeptFor, AsksFewAtFirst, IsPutBack};
 ghost use Rattle.jac_dispatch.specs.Seen.{whose, dispatcher_seen};
 ghost use Rattle.jac_plain.specs.Shown.{worlds_of};
 
@@ -148,6 +148,8 @@ pub fn answer_ask<K: Keeper, L: Ledger, M: Ledger>(
         dispatcher.old.evaluations.now dispatcher.new.evaluations.now) }
     ensures reading { stores (whose dispatcher.old).app ask.now ≡ false
         → dispatcher.new.splits.now ≡ dispatcher.old.splits.now }
+    ensures cached { AreKeptFor ask.now.viewer dispatcher.old.viewer_caches.now
+        dispatcher.new.viewer_caches.now }
     ensures same { whose dispatcher.new ≡ whose dispatcher.old }
 {
     match answer_over_caches(dispatcher, via, ask) {
@@ -191,6 +193,8 @@ fn answer_over_caches<K: Keeper, L: Ledger, M: Ledger>(
         dispatcher.old.evaluations.now dispatcher.new.evaluations.now) }
     ensures reading { stores (whose dispatcher.old).app ask.now ≡ false
         → dispatcher.new.splits.now ≡ dispatcher.old.splits.now }
+    ensures cached { AreKeptFor ask.now.viewer dispatcher.old.viewer_caches.now
+        dispatcher.new.viewer_caches.now }
     ensures same { whose dispatcher.new ≡ whose dispatcher.old }
 {
     let ready = ready_answer(dispatcher, ask)?;
@@ -233,6 +237,8 @@ pub fn ready_answer<K: Keeper, L: Ledger, M: Ledger>(
         result }
     ensures settled { AreValidCaches (whose dispatcher.old).app (K.seen dispatcher.new.keeper.now)
         dispatcher.new.viewer_caches.now }
+    ensures cached { AreKeptFor ask.now.viewer dispatcher.old.viewer_caches.now
+        dispatcher.new.viewer_caches.now }
     ensures same { whose dispatcher.new ≡ whose dispatcher.old }
 {
     if dispatcher.lazy {
@@ -272,6 +278,8 @@ fn ready_lazily<K: Keeper, L: Ledger, M: Ledger>(
     ensures reads { Reads (K.seen dispatcher.old.keeper.now) (K.seen dispatcher.new.keeper.now)
         result }
     ensures settled { AreValidCaches (whose dispatcher.old).app (K.seen dispatcher.new.keeper.now)
+        dispatcher.new.viewer_caches.now }
+    ensures cached { AreKeptFor ask.now.viewer dispatcher.old.viewer_caches.now
         dispatcher.new.viewer_caches.now }
     ensures same { whose dispatcher.new ≡ whose dispatcher.old }
 {
@@ -326,6 +334,8 @@ fn ready_valid<K: Keeper, L: Ledger, M: Ledger>(
     ensures reads { Reads (K.seen dispatcher.old.keeper.now) (K.seen dispatcher.new.keeper.now)
         result }
     ensures settled { AreValidCaches (whose dispatcher.old).app (K.seen dispatcher.new.keeper.now)
+        dispatcher.new.viewer_caches.now }
+    ensures cached { AreKeptFor ask.now.viewer dispatcher.old.viewer_caches.now
         dispatcher.new.viewer_caches.now }
     ensures same { whose dispatcher.new ≡ whose dispatcher.old }
 {
@@ -410,6 +420,8 @@ pub fn store_answer<K: Keeper, L: Ledger, M: Ledger>(
         dispatcher.new.viewer_caches.now }
     ensures unsplit { dispatcher.new.splits.now ≡ dispatcher.old.splits.now }
     ensures unasked { dispatcher.new.evaluations.now ≡ dispatcher.old.evaluations.now }
+    ensures cached { AreKeptFor ask.now.viewer dispatcher.old.viewer_caches.now
+        dispatcher.new.viewer_caches.now }
     ensures same { whose dispatcher.new ≡ whose dispatcher.old }
 {
     cache_moves();

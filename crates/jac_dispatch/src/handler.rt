@@ -12,7 +12,7 @@ ghost use Rattle.jac_replies.specs.Spelled.{spelled_bytes, audit_rest};
 ghost use Rattle.jac_engine.specs.Answers.{stores};
 ghost use Rattle.jac_serve_events.specs.Dispatcher.{MayServe, KeepsDispatcher, kept};
 ghost use Rattle.jac_serve_events.specs.Serve.{Handles};
-ghost use Rattle.jac_dispatch.specs.Answered.{IsAnswerMade, IsRefusalSent, AreValidCaches, answer_spec};
+ghost use Rattle.jac_dispatch.specs.Answered.{IsAnswerMade, IsRefusalSent, AreKeptFor, AreValidCaches, answer_spec};
 ghost use Rattle.jac_dispatch.specs.Asked.{ask_in, request_in};
 ghost use Rattle.jac_dispatch.specs.Seen.{whose, dispatcher_seen};
 ghost use Rattle.jac_dispatch.specs.declared.answer.RequestSource.TheVariants as ways;
@@ -54,6 +54,7 @@ impl<K: Keeper, L: Ledger, M: Ledger> Drop for AppDispatcher<'_, '_, '_, '_, '_,
     fn drop(self)
         ensures keeper { self.exit.0.now ≡ self.entry.keeper.now }
         ensures splits { self.exit.1.0.now ≡ self.entry.splits.now }
+        ensures evaluations { self.exit.1.1.0.now ≡ self.entry.evaluations.now }
     {
         let AppDispatcher {
             keeper: _,
@@ -175,6 +176,9 @@ fn ask_lines<K: Keeper, L: Ledger, M: Ledger>(
     ensures reading { stores (whose dispatcher.old).app
         (ask_in (whose dispatcher.old).app viewer method.now path.now query.now body.now) ≡ false
         → dispatcher.new.splits.now ≡ dispatcher.old.splits.now }
+    ensures cached { AreKeptFor
+        (ask_in (whose dispatcher.old).app viewer method.now path.now query.now body.now).viewer
+        dispatcher.old.viewer_caches.now dispatcher.new.viewer_caches.now }
     ensures told { IsTrue (K.seen dispatcher.new.keeper.now).tells
         → IsTrue (K.seen dispatcher.old.keeper.now).tells }
     ensures cause { HasCause (K.seen dispatcher.old.keeper.now).faults
@@ -214,6 +218,9 @@ fn request_lines<K: Keeper, L: Ledger, M: Ledger>(
     ensures reading { stores (whose dispatcher.old).app
         (request_in (whose dispatcher.old).app dispatcher.old.sessions.now request.now) ≡ false
         → dispatcher.new.splits.now ≡ dispatcher.old.splits.now }
+    ensures cached { AreKeptFor
+        (request_in (whose dispatcher.old).app dispatcher.old.sessions.now request.now).viewer
+        dispatcher.old.viewer_caches.now dispatcher.new.viewer_caches.now }
     ensures told { IsTrue (K.seen dispatcher.new.keeper.now).tells
         → IsTrue (K.seen dispatcher.old.keeper.now).tells }
     ensures cause { HasCause (K.seen dispatcher.old.keeper.now).faults

@@ -21,7 +21,7 @@ module _ {O : Type 0} (answer_spec : O → AnswerSpec) where
   keeps-may a b may keeps = record {
     attached = subst (λ (s : Store). IsTrue s.attached) (sym keeps.store) may.attached;
     ready = subst (λ (o : O). (answer_spec o).ready b.run_seen) (sym keeps.same) keeps.ready;
-    settled = subst (λ (o : O). (answer_spec o).settled b.run_seen.keeper b.viewer_caches) (sym keeps.same) keeps.settled;
+    settled = subst (λ (o : O). (answer_spec o).settled b.run_seen.keeper b.run_seen.viewer_caches) (sym keeps.same) keeps.settled;
   }
 
   pub keeps-then : (a b c : DispatcherSeen O) → KeepsDispatcher answer_spec a b → KeepsDispatcher answer_spec b c → KeepsDispatcher answer_spec a c
@@ -29,7 +29,7 @@ module _ {O : Type 0} (answer_spec : O → AnswerSpec) where
     same = two.same ∙ one.same;
     store = two.store ∙ one.store;
     ready = subst (λ (o : O). (answer_spec o).ready c.run_seen) one.same two.ready;
-    settled = subst (λ (o : O). (answer_spec o).settled c.run_seen.keeper c.viewer_caches) one.same two.settled;
+    settled = subst (λ (o : O). (answer_spec o).settled c.run_seen.keeper c.run_seen.viewer_caches) one.same two.settled;
   }
 
   -- what holds of whom a dispatcher is, of whom it was

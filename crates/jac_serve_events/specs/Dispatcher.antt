@@ -1,16 +1,14 @@
 -- A dispatcher, which answers requests over a keeper.
-use Rattle.std.specs.Prelude.{◌≡◌, IsTrue, List}
-use Rattle.jac_viewer_caches.specs.declared.viewer_caches.ViewerEntry.{ViewerEntry}
+use Rattle.std.specs.Prelude.{◌≡◌, IsTrue}
 use Rattle.jac_serve_events.specs.AnswerSpec.{AnswerSpec}
 use Rattle.jac_serve_events.specs.RunSeen.{RunSeen}
 use Rattle.jac_serve_events.specs.Outside.{Span, span}
 
--- what contracts see of a dispatcher: whose it is, its keeper and the facets that were split, and
--- what was settled for those who looked
+-- what contracts see of a dispatcher: whose it is, and what a run sees of its keeper, its counts
+-- and what was settled for those who looked
 pub record DispatcherSeen (O : Type 0) : Type 0 where
   pub of : O
   pub run_seen : RunSeen
-  pub viewer_caches : List ViewerEntry
 
 -- what a dispatcher holds before and after some calls
 abbrev pub kept : {O : Type 0} → DispatcherSeen O → DispatcherSeen O → Span RunSeen
@@ -23,7 +21,7 @@ pub record MayServe {O : Type 0} (answer_spec : O → AnswerSpec)
   pub attached : IsTrue dispatcher.run_seen.keeper.store.attached
   pub ready : (answer_spec dispatcher.of).ready dispatcher.run_seen
   pub settled : (answer_spec dispatcher.of).settled dispatcher.run_seen.keeper
-      dispatcher.viewer_caches
+      dispatcher.run_seen.viewer_caches
 
 -- after a call a dispatcher is whose it was, its store is what it was, and it may serve again
 pub record KeepsDispatcher {O : Type 0} (answer_spec : O → AnswerSpec)
@@ -31,4 +29,5 @@ pub record KeepsDispatcher {O : Type 0} (answer_spec : O → AnswerSpec)
   pub same : after.of ≡ before.of
   pub store : after.run_seen.keeper.store ≡ before.run_seen.keeper.store
   pub ready : (answer_spec before.of).ready after.run_seen
-  pub settled : (answer_spec before.of).settled after.run_seen.keeper after.viewer_caches
+  pub settled : (answer_spec before.of).settled after.run_seen.keeper
+      after.run_seen.viewer_caches

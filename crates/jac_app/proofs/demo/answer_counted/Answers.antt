@@ -5,15 +5,17 @@ use Rattle.jac_lang.specs.Mirror.{application_of}
 use Rattle.jac_engine.specs.Prepared.{IsPrepared, applied_if}
 use Rattle.jac_hub.specs.Hearing.{asked, whole}
 use Rattle.jac_serve_events.specs.Log.{reply_to}
-use Rattle.jac_dispatch.specs.Answered.{AreValidCaches, AreAffected, DispatcherOf}
+use Rattle.jac_dispatch.specs.Answered.{AreValidCaches, AreAffected, AsksFewAtFirst, DispatcherOf}
 use Rattle.jac_dispatch.specs.Seen.{whose}
 use Rattle.jac_dispatch.proofs.EntryLemmas.{unapplied}
-use Rattle.jac_dispatch.proofs.ViewerEntryLaws.{prepared_after, still_valid}
+use Rattle.jac_dispatch.proofs.ViewerEntryLaws.{few_stored, kept_then, prepared_after, still_valid}
 use Rattle.jac_app.proofs.demo.answer_counted.Goals as goal
 
 pub returns-clause-counted : goal.returns-clause-counted
 returns-clause-counted g c =
     let K = g.K.Keeper in
+    let before = c.args.dispatcher.now in
+    let ready = c.ready_answer.new.dispatcher in
     let app = application_of c.args.dispatcher.now.service.now in
     let ask = c.args.ask.now in
     let s = (K.seen c.args.dispatcher.now.keeper.now).state in
@@ -36,6 +38,14 @@ returns-clause-counted g c =
         good = λ told good. rw (stored told) (prepared.good (c.in_ok-store_answer.ensures.told told) good);
         unstored = λ told none. stored told ∙ unapplied p.change s (prepared.stored ∙ none);
         unsplit = λ none. c.in_ok-store_answer.ensures.unsplit ∙ c.in_ok-ready.ensures.unsplit (prepared.stored ∙ none);
+        bounded =
+            subst (λ (lazy : Bool). AsksFewAtFirst lazy (K.seen c.store_answer.new.dispatcher.keeper.now).tells app later ask.viewer before.viewer_caches.now before.evaluations.now c.store_answer.new.dispatcher.evaluations.now)
+            c.requires.eager
+            (few_stored before.lazy tells _ app (applied_if p.change s) later ask.viewer before.viewer_caches.now before.evaluations.now ready.evaluations.now c.store_answer.new.dispatcher.evaluations.now
+            c.in_ok-store_answer.ensures.told stored c.in_ok-store_answer.ensures.unasked c.in_ok-ready.ensures.bounded);
+        kept =
+            kept_then ask.viewer before.viewer_caches.now ready.viewer_caches.now c.store_answer.new.dispatcher.viewer_caches.now
+            c.in_ok-ready.ensures.cached c.in_ok-store_answer.ensures.cached;
         reply_made = refl;
         audit_made = c.in_ok-counted.ensures.audit;
       };
@@ -73,3 +83,13 @@ pub store_answer-requires-clause-settled : goal.store_answer-requires-clause-set
 store_answer-requires-clause-settled g c =
     let new = g.K.Keeper.seen c.ready_answer.new.dispatcher.keeper.now in
     subst (λ (of : DispatcherOf). AreValidCaches of.app new c.ready_answer.new.dispatcher.viewer_caches.now) (sym c.in_ok-ready.ensures.same) c.in_ok-ready.ensures.settled
+
+pub returns-clause-cached : goal.returns-clause-cached
+returns-clause-cached g c =
+    kept_then c.args.ask.now.viewer c.args.dispatcher.now.viewer_caches.now c.ready_answer.new.dispatcher.viewer_caches.now c.store_answer.new.dispatcher.viewer_caches.now
+    c.in_ok-ready.ensures.cached c.in_ok-store_answer.ensures.cached
+
+pub returns-in_err-store_answer-clause-cached : goal.returns-in_err-store_answer-clause-cached
+returns-in_err-store_answer-clause-cached g c =
+    kept_then c.args.ask.now.viewer c.args.dispatcher.now.viewer_caches.now c.ready_answer.new.dispatcher.viewer_caches.now c.store_answer.new.dispatcher.viewer_caches.now
+    c.in_ok-ready.ensures.cached c.in_err-store_answer.ensures.cached

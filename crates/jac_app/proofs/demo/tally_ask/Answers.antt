@@ -34,7 +34,7 @@ returns-in-Err-clause-answered g c =
     (λ put h.
     ask_stopped app k c.args.served ask c.viewer_in.result stop c.put_stopped.result put (rw c.app.ensures.app at c.viewer_in.ensures)
     (is_failed false app k ask false stop
-    c.in-Err.ensures.refused c.in-Err.ensures.reading c.in-Err.ensures.told c.requires.dispatcher.ready c.in-Err.ensures.cause.later (λ is. c.in-Err.ensures.cause.rose (ap (λ (s : Stop). Err s) is)))
+    c.in-Err.ensures.refused c.in-Err.ensures.reading c.in-Err.ensures.told c.requires.dispatcher.ready c.in-Err.ensures.cause.later (λ is. c.in-Err.ensures.cause.rose (ap (λ (s : Stop). Err s) is)) c.in-Err.ensures.cached)
     h)
     c.put_stopped.ensures.put
 

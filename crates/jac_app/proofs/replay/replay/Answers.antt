@@ -1,4 +1,5 @@
 use Rattle.jac_lang.specs.Mirror.{application_of}
+use Rattle.jac_serve_events.specs.RunSeen.{run_counts}
 use Rattle.jac_serve_events.specs.Outside.{span}
 use Rattle.jac_dispatch.proofs.StartLaws.{starts}
 use Rattle.jac_app.proofs.ReplayLemmas.{few_events, replay_halted, replay_served}
@@ -10,7 +11,7 @@ returns-in-Err-clause-ends g c =
     let U = g.U.Sink in
     let K = g.K.Keeper in
     replay_halted (span (F.seen c.args.files.now) (F.seen c.open_store.new.files)) (g.O.Sink.seen c.args.out.now) (U.seen c.args.audit.now) (U.seen c.open_store.new.audit)
-    (K.seen c.args.vault.now) (K.seen c.open_store.new.vault) c.args.counts.now.splits.now c.args.command.now c.in-Err.exit_reason c.in-Err.ensures
+    (K.seen c.args.vault.now) (K.seen c.open_store.new.vault) (run_counts c.args.counts.now.splits.now c.args.counts.now.evaluations.now) c.args.command.now c.in-Err.exit_reason c.in-Err.ensures
 
 pub serve_over-requires-clause-short : goal.serve_over-requires-clause-short
 serve_over-requires-clause-short g c =
@@ -32,5 +33,5 @@ returns-clause-ends g c =
     let K = g.K.Keeper in
     let opened = c.in-Ok.opened in
     replay_served (span (F.seen c.args.files.now) (F.seen c.open_store.new.files)) (O.seen c.args.out.now) (O.seen c.serve_over.new.out) (U.seen c.args.audit.now) (U.seen c.open_store.new.audit)
-    (U.seen c.serve_over.new.audit) (K.seen c.args.vault.now) (K.seen c.open_store.new.vault) (K.seen c.serve_over.new.vault) c.args.counts.now.splits.now c.serve_over.new.splits c.args.command.now
+    (U.seen c.serve_over.new.audit) (K.seen c.args.vault.now) (K.seen c.open_store.new.vault) (K.seen c.serve_over.new.vault) (run_counts c.args.counts.now.splits.now c.args.counts.now.evaluations.now) (run_counts c.serve_over.new.splits c.serve_over.new.evaluations) c.args.command.now
     (application_of opened.service) opened.sessions opened.events c.serve_over.result c.in-Ok.ensures c.serve_over.ensures.store c.serve_over.ensures.served

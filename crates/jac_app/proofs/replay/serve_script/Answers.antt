@@ -1,7 +1,8 @@
 use Rattle.jac_lang.specs.Mirror.{application_of}
-use Rattle.jac_serve_events.specs.RunSeen.{run_seen_of}
-use Rattle.jac_serve_events.specs.Outside.{span, sinks}
+use Rattle.jac_serve_events.specs.Dispatcher.{kept}
+use Rattle.jac_serve_events.specs.Outside.{sinks}
 use Rattle.jac_serve_events.proofs.OutsideLemmas.{Went-on}
+use Rattle.jac_dispatch.specs.Seen.{dispatcher_seen}
 use Rattle.jac_dispatch.specs.Answered.{answer_spec_of}
 use Rattle.jac_app.proofs.ReplayLemmas.{served_stopped}
 use Rattle.jac_app.proofs.replay.serve_script.Goals as goal
@@ -21,5 +22,5 @@ returns-in-Err-clause-served g c =
     (Went-on _ _ _
     (λ o a h.
     served_stopped (answer_spec_of dispatcher.lazy (application_of dispatcher.service.now) dispatcher.sessions.now)
-    (span (run_seen_of (K.seen dispatcher.keeper.now) dispatcher.splits.now) (run_seen_of (K.seen after.keeper.now) after.splits.now)) c.args.events.now c.in-Err.stopped s o a h)
+    (kept (dispatcher_seen K.seen dispatcher) (dispatcher_seen K.seen after)) c.args.events.now c.in-Err.stopped s o a h)
     (rw c.as_slice.ensures at c.in-Err.ensures.served))

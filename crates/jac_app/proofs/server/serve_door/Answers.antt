@@ -1,6 +1,6 @@
 use Rattle.jac_lang.specs.Mirror.{application_of}
-use Rattle.jac_serve_events.specs.RunSeen.{run_seen_of}
-use Rattle.jac_serve_events.specs.Outside.{span, sinks}
+use Rattle.jac_serve_events.specs.Dispatcher.{kept}
+use Rattle.jac_serve_events.specs.Outside.{sinks}
 use Rattle.jac_serve_events.proofs.DispatcherLemmas.{keeps-none}
 use Rattle.jac_serve_events.proofs.OutsideLemmas.{Went-none, Went-on}
 use Rattle.jac_dispatch.specs.Answered.{answer_spec}
@@ -21,7 +21,7 @@ returns-in-Ok-clause-served g c =
     (λ out audit served.
     door_ends g.D.Line.Link.seen (application_of dispatcher.service.now) dispatcher.sessions.now (D.seen c.args.door.now) (D.seen c.listen.new.self) (D.seen c.serve_connections.new.door) c.args.serving.now _
     c.in-Ok.ensures c.serve_connections.ensures.lasts c.serve_connections.ensures.same_port dispatcher.lazy c.requires.lazy
-    (span (run_seen_of (K.seen dispatcher.keeper.now) dispatcher.splits.now) (run_seen_of (K.seen after.keeper.now) after.splits.now)) c.serve_connections.result s out audit served)
+    (kept (dispatcher_seen K.seen dispatcher) (dispatcher_seen K.seen after)) c.serve_connections.result s out audit served)
     c.serve_connections.ensures.served
 
 pub returns-in-Err-clause-served : goal.returns-in-Err-clause-served
@@ -32,7 +32,7 @@ returns-in-Err-clause-served g c =
     let audit = g.U.Sink.seen c.args.audit.now in
     Went-none out audit _
     (unheard_ends g.D.Line.Link.seen (application_of dispatcher.service.now) dispatcher.sessions.now (D.seen c.args.door.now) (D.seen c.listen.new.self) c.args.serving.now
-    (run_seen_of (g.K.Keeper.seen dispatcher.keeper.now) dispatcher.splits.now) _ (sinks out out audit audit) c.in-Err.ensures)
+    (dispatcher_seen g.K.Keeper.seen dispatcher).run_seen _ (sinks out out audit audit) c.in-Err.ensures)
 
 pub returns-in-Err-clause-keeps : goal.returns-in-Err-clause-keeps
 returns-in-Err-clause-keeps g c = keeps-none answer_spec (dispatcher_seen g.K.Keeper.seen c.args.dispatcher.now) c.requires.dispatcher

@@ -8,7 +8,7 @@ use Rattle.jac_resolve.specs.Rounds.{AreFewEvaluations}
 use Rattle.jac_dispatch.specs.Answered.{AreValidCaches, AreAffected, DispatcherOf}
 use Rattle.jac_dispatch.specs.Seen.{whose}
 use Rattle.jac_dispatch.proofs.EntryLemmas.{servable, unapplied}
-use Rattle.jac_dispatch.proofs.ViewerEntryLaws.{prepared_after, still_valid}
+use Rattle.jac_dispatch.proofs.ViewerEntryLaws.{few_stored, kept_then, prepared_after, still_valid}
 use Rattle.jac_dispatch.proofs.answer.answer_over_caches.Goals as goal
 
 pub make_lines-requires-clause-status : goal.make_lines-requires-clause-status
@@ -28,6 +28,8 @@ make_lines-requires-clause-answered g c =
 pub returns-clause-made : goal.returns-clause-made
 returns-clause-made g c =
     let K = g.K.Keeper in
+    let before = c.args.dispatcher.now in
+    let ready = c.ready_answer.new.dispatcher in
     let app = application_of c.args.dispatcher.now.service.now in
     let lazy = c.args.dispatcher.now.lazy in
     let ask = c.args.ask.now in
@@ -48,6 +50,12 @@ returns-clause-made g c =
       good = λ told good. rw (stored told) (prepared.good (c.in_ok-store_answer.ensures.told told) good);
       unstored = λ told none. stored told ∙ unapplied p.change s (prepared.stored ∙ none);
       unsplit = λ none. c.in_ok-store_answer.ensures.unsplit ∙ c.in_ok-ready.ensures.unsplit (prepared.stored ∙ none);
+      bounded =
+          few_stored lazy tells _ app (applied_if p.change s) later ask.viewer before.viewer_caches.now before.evaluations.now ready.evaluations.now c.store_answer.new.dispatcher.evaluations.now
+          c.in_ok-store_answer.ensures.told stored c.in_ok-store_answer.ensures.unasked c.in_ok-ready.ensures.bounded;
+      kept =
+          kept_then ask.viewer before.viewer_caches.now ready.viewer_caches.now c.store_answer.new.dispatcher.viewer_caches.now
+          c.in_ok-ready.ensures.cached c.in_ok-store_answer.ensures.cached;
       reply_made = c.in_ok-lines.ensures.reply;
       audit_made = c.in_ok-lines.ensures.audit;
     }
@@ -103,3 +111,13 @@ returns-clause-bounded g c =
           (subst (λ (x : State). AreFewEvaluations app x viewer before.evaluations.now ready.evaluations.now) (sym (stored told))
           (c.in_ok-ready.ensures.bounded.few eager (c.in_ok-store_answer.ensures.told told) nothing));
     }
+
+pub returns-clause-cached : goal.returns-clause-cached
+returns-clause-cached g c =
+    kept_then c.args.ask.now.viewer c.args.dispatcher.now.viewer_caches.now c.ready_answer.new.dispatcher.viewer_caches.now c.store_answer.new.dispatcher.viewer_caches.now
+    c.in_ok-ready.ensures.cached c.in_ok-store_answer.ensures.cached
+
+pub returns-in_err-store_answer-clause-cached : goal.returns-in_err-store_answer-clause-cached
+returns-in_err-store_answer-clause-cached g c =
+    kept_then c.args.ask.now.viewer c.args.dispatcher.now.viewer_caches.now c.ready_answer.new.dispatcher.viewer_caches.now c.store_answer.new.dispatcher.viewer_caches.now
+    c.in_ok-ready.ensures.cached c.in_err-store_answer.ensures.cached

@@ -1,6 +1,6 @@
 use Rattle.std.proofs.Common.{inr, refl}
 use Rattle.jac_lang.specs.Mirror.{application_of}
-use Rattle.jac_dispatch.proofs.ViewerEntryLaws.{fewer_valid, taken_first, taken_valid}
+use Rattle.jac_dispatch.proofs.ViewerEntryLaws.{fewer_valid, kept_fewer, taken_first, taken_valid}
 use Rattle.jac_dispatch.proofs.answer.ready_valid.Goals as goal
 
 pub prepare_with_cache-requires-clause-valid : goal.prepare_with_cache-requires-clause-valid
@@ -38,3 +38,11 @@ returns-clause-bounded g c =
     (record {
       few = λ eager told nothing. c.in_ok-valid.ensures.bounded.few refl told (taken_first c.args.dispatcher.now.viewer_caches.now c.args.ask.now.viewer c.take_cache-cache.result nothing c.take_cache-cache.ensures.taken);
     })
+
+pub returns-clause-cached : goal.returns-clause-cached
+returns-clause-cached g c =
+    kept_fewer c.args.ask.now.viewer c.args.dispatcher.now.viewer_caches.now c.take_cache-cache.new.viewer_caches c.take_cache-cache.ensures.left
+
+pub returns-in_err-valid-clause-cached : goal.returns-in_err-valid-clause-cached
+returns-in_err-valid-clause-cached g c =
+    kept_fewer c.args.ask.now.viewer c.args.dispatcher.now.viewer_caches.now c.take_cache-cache.new.viewer_caches c.take_cache-cache.ensures.left

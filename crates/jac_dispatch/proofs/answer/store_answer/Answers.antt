@@ -1,5 +1,5 @@
 use Rattle.jac_lang.specs.Mirror.{application_of}
-use Rattle.jac_dispatch.proofs.ViewerEntryLaws.{refused_valid, stored_valid}
+use Rattle.jac_dispatch.proofs.ViewerEntryLaws.{kept_refused, kept_stored, refused_valid, stored_valid}
 use Rattle.jac_dispatch.proofs.answer.store_answer.Goals as goal
 
 pub returns-in-Ok-clause-settled : goal.returns-in-Ok-clause-settled
@@ -18,3 +18,13 @@ returns-in-Err-clause-settled g c =
     let ready = c.args.ready in
     refused_valid c.cache_moves.ensures c.covered_by_nothing.ensures (application_of dispatcher.service.now) (K.seen dispatcher.keeper.now) (K.seen c.commit.new.keeper) ready.prepared.change ready.invalidation
     dispatcher.viewer_caches.now c.invalidate_by.new.viewer_caches c.in-Err.ensures.told c.requires.affected c.invalidate_by.ensures c.requires.settled c.in-Err.ensures.refused
+
+pub returns-in-Ok-clause-cached : goal.returns-in-Ok-clause-cached
+returns-in-Ok-clause-cached g c =
+    let ready = c.args.ready in
+    kept_stored c.args.ask.now.viewer ready.invalidation c.args.dispatcher.now.viewer_caches.now c.invalidate_by.new.viewer_caches c.invalidate_by.ensures
+    ready.cache c.put_back.new.viewer_caches c.put_back.ensures
+
+pub returns-in-Err-clause-cached : goal.returns-in-Err-clause-cached
+returns-in-Err-clause-cached g c =
+    kept_refused c.args.ask.now.viewer c.args.ready.invalidation c.args.dispatcher.now.viewer_caches.now c.invalidate_by.new.viewer_caches c.invalidate_by.ensures

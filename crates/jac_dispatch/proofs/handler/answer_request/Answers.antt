@@ -25,7 +25,7 @@ returns-in-Err-clause-handled g c =
     c.args.conn c.args.request.now c.in-Err.stop _ _ _
     c.fixed_of.ensures (rw c.as_bytes.ensures at c.is_head.ensures) (rw same at (rw c.app.ensures.app at c.request_viewer.ensures))
     c.in-Err.ensures.refused c.in-Err.ensures.reading c.in-Err.ensures.told c.requires.ready c.in-Err.ensures.cause.later
-    (λ is. c.in-Err.ensures.cause.rose (ap (λ (s : Stop). Err s) is))
+    (λ is. c.in-Err.ensures.cause.rose (ap (λ (s : Stop). Err s) is)) c.in-Err.ensures.cached
 
 pub returns-in-Ok-clause-keeps : goal.returns-in-Ok-clause-keeps
 returns-in-Ok-clause-keeps g c =

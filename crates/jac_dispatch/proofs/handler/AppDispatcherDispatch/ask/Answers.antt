@@ -26,7 +26,7 @@ returns-in-Err-clause-asked g c =
     let ask = ask_in of.app c.args.viewer c.args.method.now c.args.path.now c.args.query.now c.args.body.now in
     let same = ap (λ (it : DispatcherOf). viewer_in it.app c.args.viewer) c.in-Err.ensures.same in (
       is_failed of.lazy of.app k ask false c.in-Err.stop c.in-Err.ensures.refused c.in-Err.ensures.reading c.in-Err.ensures.told c.requires.ready
-          c.in-Err.ensures.cause.later (λ is. c.in-Err.ensures.cause.rose (ap (λ (s : Stop). Err s) is)),
+          c.in-Err.ensures.cause.later (λ is. c.in-Err.ensures.cause.rose (ap (λ (s : Stop). Err s) is)) c.in-Err.ensures.cached,
       rw same at (rw c.app.ensures.app at c.viewer_in.ensures),
     )
 
