@@ -12,12 +12,12 @@ use Rattle.jac_replies.specs.declared.answer.Answer.{Answer}
 use Rattle.jac_replies.specs.declared.answer.Ask.{Ask}
 use Rattle.jac_engine.specs.Answers.{IsAnswerTo}
 use Rattle.jac_serve_events.specs.AnswerSpec.{LogSubject, LogEntry}
-use Rattle.jac_serve_events.specs.RunSeen.{Grew, run_seen_of}
+use Rattle.jac_serve_events.specs.RunSeen.{Grew, run_seen_of, run_seen_with}
 use Rattle.jac_serve_events.specs.Outside.{Span, span}
 use Rattle.jac_cli.specs.declared.words.ServeArgs.{ServeArgs}
 use Rattle.jac_dispatch.specs.Log.{IsAnswer, AreAnswered, is_fault_answer, faults_in}
 use Rattle.jac_run_laws.specs.Doors.{HasServed}
-use Rattle.jac_run_laws.specs.Replayed.{TopRun, IsToldToEnd}
+use Rattle.jac_run_laws.specs.Replayed.{TopRun, IsToldToEnd, counts_of}
 use Rattle.jac_headline.specs.Headline.{HasEntry, world_behind}
 use Rattle.jac_headline.specs.Replies.{IsRefusedFor, IsRightReply, AreRightReplies}
 use Rattle.jac_headline.proofs.RightAnswers.{refusal_found, entry_in, page_in}
@@ -87,6 +87,6 @@ pub each_reply : {L : Type 0} (serving : ServeArgs) (top : TopRun L) (run : HasS
     → AreRightReplies serving.lazy run.app (span run.door_served.opened top.seen.keeper.after) run.log
 each_reply serving top run ended =
     let s = run.door_served in
-    let on = visits_on top.line serving.lazy run.app run.sessions 1 0 (run_seen_of s.opened top.splits.before) (run_seen_of top.seen.keeper.after top.splits.after)
+    let on = visits_on top.line serving.lazy run.app run.sessions 1 0 (run_seen_of s.opened (counts_of top).before) (run_seen_with top.seen.keeper.after (counts_of top).after s.left)
     run.visits run.log run.audit s.visited ended.keeper in
     λ before entry has. right_reply serving.lazy run.app (span s.opened top.seen.keeper.after) run.log on.answered on.faults before entry has

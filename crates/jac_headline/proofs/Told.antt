@@ -11,7 +11,8 @@ use Rattle.jac_route.specs.declared.sessions.Session.{Session}
 use Rattle.jac_route.specs.Sessions.{sessions_in}
 use Rattle.jac_replies.specs.declared.answer.Ask.{Ask}
 use Rattle.jac_serve_events.specs.AnswerSpec.{LogEntry}
-use Rattle.jac_serve_events.specs.RunSeen.{run_seen_of}
+use Rattle.jac_serve_events.specs.RunSeen.{run_seen_of, run_seen_with}
+use Rattle.jac_viewer_caches.specs.declared.viewer_caches.ViewerEntry.{ViewerEntry}
 use Rattle.jac_serve_events.specs.Log.{Brings, audit_lines}
 use Rattle.jac_serve_events.specs.Outside.{Span, span, Took}
 use Rattle.jac_serve_events.specs.Script.{script_of}
@@ -32,7 +33,7 @@ use Rattle.jac_dispatch.specs.Answered.{answer_spec_of}
 use Rattle.jac_dispatch.specs.Log.{Serves}
 use Rattle.jac_app.specs.Replay.{EndsReplay}
 use Rattle.jac_app.specs.Run.{Ends, Runs}
-use Rattle.jac_run_laws.specs.Replayed.{TopRun, IsTopRun, HoldSessions}
+use Rattle.jac_run_laws.specs.Replayed.{TopRun, IsTopRun, HoldSessions, counts_of}
 use Rattle.jac_run_laws.proofs.Replays.{serves, sessions_held, same_command}
 use Rattle.jac_run_laws.proofs.SameReplays.{same_bytes, one_sessions}
 use Rattle.jac_headline.specs.Headline.{Given, HoldGiven, IsReplayTold, event_fault_text, status_by}
@@ -139,11 +140,12 @@ module _ {L : Type 0} (replay : Replay) (given : Given) (top : TopRun L) (told :
   answered_on : (app : Application) (sessions : List Session) (bytes : List ℕ) (refused : Option EventFault)
       → IsOpened (standing_at top.seen standing) (commands.Replay replay) app sessions bytes
       → (opened : KeeperSeen) → IsAttached replay.db app top.seen.keeper opened
+      → (left : List ViewerEntry)
       → PutsServed false (answer_spec_of replay.lazy app sessions)
-      (span (run_seen_of opened top.splits.before) (run_seen_of top.seen.keeper.after top.splits.after)) (script_of bytes) served audit
+      (span (run_seen_of opened (counts_of top).before) (run_seen_with top.seen.keeper.after (counts_of top).after left)) (script_of bytes) served audit
       → (script_of bytes).refused ≡ refused → last ≡ event_fault_text refused → top.status ≡ status_by refused
       → HasAnswered replay given top
-  answered_on app sessions bytes refused files opened attached lines stops line status =
+  answered_on app sessions bytes refused files opened attached left lines stops line status =
       let all : (script_of bytes).events ≡ lines.events =
       lines.parts ∙ ap (λ (l : List Event). lines.events ++ l) (lines.ended refl) ∙ append-nil lines.events in
       let brings : Brings (answer_spec_of replay.lazy app sessions) no_connections 0 (script_of bytes).events lines.log served lines.later =
@@ -161,7 +163,7 @@ module _ {L : Type 0} (replay : Replay) (given : Given) (top : TopRun L) (told :
         attached = attached;
         served =
             serves replay.lazy false app sessions
-            (span (run_seen_of opened top.splits.before) (run_seen_of top.seen.keeper.after top.splits.after))
+            (span (run_seen_of opened (counts_of top).before) (run_seen_with top.seen.keeper.after (counts_of top).after left))
             (script_of bytes).events lines.log lines.served told.keeper;
         brought = brings;
         out_took = subst (λ (l : List ℕ). Took top.seen.out (served ++ l)) last_is out_took;
@@ -171,23 +173,23 @@ module _ {L : Type 0} (replay : Replay) (given : Given) (top : TopRun L) (told :
       subst (λ (g : Given). HasAnswered replay g top) (read_is app sessions bytes files) answered
 
   -- all events were answered
-  replay_done : EndsReplay (standing_at top.seen standing) top.splits (commands.Replay replay) (Ok tt) served audit
+  replay_done : EndsReplay (standing_at top.seen standing) (counts_of top) (commands.Replay replay) (Ok tt) served audit
       → last ≡ event_fault_text None → top.status ≡ statuses.Done → HasAnswered replay given top
   replay_done (inl early) line status = absurd early.0
   replay_done (inr serving) line status =
       let on = serving.ends.1 in
-      answered_on serving.app serving.sessions serving.events None serving.opened on.opened on.attached on.ends.1 on.ends.0 line status
+      answered_on serving.app serving.sessions serving.events None serving.opened on.opened on.attached on.left on.ends.1 on.ends.0 line status
 
   -- those before a line that is refused were
-  replay_stopped : (event_fault : EventFault) → EndsReplay (standing_at top.seen standing) top.splits (commands.Replay replay) (Err (exits.LineRefused event_fault)) served audit
+  replay_stopped : (event_fault : EventFault) → EndsReplay (standing_at top.seen standing) (counts_of top) (commands.Replay replay) (Err (exits.LineRefused event_fault)) served audit
       → last ≡ event_fault_line event_fault → top.status ≡ statuses.LineRefused → HasAnswered replay given top
   replay_stopped event_fault (inl early) line status = absurd early.0.0
   replay_stopped event_fault (inr serving) line status =
       let on = serving.ends.1 in
-      answered_on serving.app serving.sessions serving.events (Some event_fault) serving.opened on.opened on.attached on.ends.1 on.ends.0 line status
+      answered_on serving.app serving.sessions serving.events (Some event_fault) serving.opened on.opened on.attached on.left on.ends.1 on.ends.0 line status
 
   -- its sessions have a form
-  replay_unlisted : (n : ℕ) → EndsReplay (standing_at top.seen standing) top.splits (commands.Replay replay) (Err (exits.SessionsRefused n)) served audit
+  replay_unlisted : (n : ℕ) → EndsReplay (standing_at top.seen standing) (counts_of top) (commands.Replay replay) (Err (exits.SessionsRefused n)) served audit
       → HasAnswered replay given top
   replay_unlisted n (inl early) = absurd (no_bad_line top replay.sessions given.sessions n told.files held.sessions_held early.0.0.1)
   replay_unlisted n (inr serving) = absurd serving.ends.1.ends
@@ -195,20 +197,20 @@ module _ {L : Type 0} (replay : Replay) (given : Given) (top : TopRun L) (told :
 module _ {L : Type 0} (words : List (List ℕ)) (replay : Replay) (given : Given) (top : TopRun L) (is_replay : command_of words ≡ Some (commands.Replay replay)) (told : IsReplayTold top) (held : HoldGiven top.seen.files.before.file replay given) (out audit : List ℕ) (out_took : Took top.seen.out out) (audit_took : Took top.seen.audit audit) where
   answered_so : (command : Command) (ended : Result (Unit {0}) ExitReason) (standing : SinkSeen) (served last : List ℕ)
       → command ≡ commands.Replay replay
-      → Ends top.line (standing_at top.seen standing) top.door top.splits command ended served audit
+      → Ends top.line (standing_at top.seen standing) top.door (counts_of top) command ended served audit
       → Finishes (span standing top.seen.out.after) command ended last top.status
       → out ≡ served ++ last → HasAnswered replay given top
   answered_so command (Ok tt) standing served last same ends finishes text =
-      let here = subst (λ (c : Command). Ends top.line (standing_at top.seen standing) top.door top.splits c (Ok tt) served audit) same ends in
+      let here = subst (λ (c : Command). Ends top.line (standing_at top.seen standing) top.door (counts_of top) c (Ok tt) served audit) same ends in
       replay_done replay given top told held standing served last audit (subst (λ (l : List ℕ). Took top.seen.out l) text out_took) audit_took
       here.0 finishes.0 finishes.1
   answered_so command (Err (exits.LineRefused event_fault)) standing served last same ends finishes text =
-      let here = subst (λ (c : Command). Ends top.line (standing_at top.seen standing) top.door top.splits c (Err (exits.LineRefused event_fault)) served audit) same ends in
+      let here = subst (λ (c : Command). Ends top.line (standing_at top.seen standing) top.door (counts_of top) c (Err (exits.LineRefused event_fault)) served audit) same ends in
       let with = closed_with (span standing top.seen.out.after) (event_fault_line event_fault) last statuses.LineRefused top.status finishes told.status in
       replay_stopped replay given top told held standing served last audit (subst (λ (l : List ℕ). Took top.seen.out l) text out_took) audit_took
       event_fault here.0 with.0 with.1
   answered_so command (Err (exits.SessionsRefused n)) standing served last same ends finishes text =
-      let here = subst (λ (c : Command). Ends top.line (standing_at top.seen standing) top.door top.splits c (Err (exits.SessionsRefused n)) served audit) same ends in
+      let here = subst (λ (c : Command). Ends top.line (standing_at top.seen standing) top.door (counts_of top) c (Err (exits.SessionsRefused n)) served audit) same ends in
       replay_unlisted replay given top told held standing served last audit (subst (λ (l : List ℕ). Took top.seen.out l) text out_took) audit_took
       n here.0
   answered_so command (Err (exits.ReadFault role)) standing served last same ends finishes text =
@@ -232,7 +234,7 @@ module _ {L : Type 0} (words : List (List ℕ)) (replay : Replay) (given : Given
   answered_so command (Err exits.Memory) standing served last same ends finishes text =
       absurd (not_memory (closes_telling (span standing top.seen.out.after) _ last statuses.Memory top.status finishes told.status))
 
-  answered_ran : Runs top.line top.seen top.door top.splits words top.status out audit → HasAnswered replay given top
+  answered_ran : Runs top.line top.seen top.door (counts_of top) words top.status out audit → HasAnswered replay given top
   answered_ran (inl r) =
       answered_so r.command r.ended r.standing r.served r.last (same_command r.command (commands.Replay replay) (sym r.is_command ∙ is_replay)) r.ends r.finishes r.out_text
   answered_ran (inr (inl r)) = absurd (not_usage (closes_telling top.seen.out _ out statuses.Usage top.status r.closes told.status))

@@ -9,7 +9,7 @@ use Rattle.jac_plain.specs.Requests.{Worlds}
 use Rattle.jac_plain.specs.Shown.{worlds_of}
 use Rattle.jac_route.specs.declared.sessions.Session.{Session}
 use Rattle.jac_serve_events.specs.AnswerSpec.{LogEntry}
-use Rattle.jac_serve_events.specs.RunSeen.{Grew, RunSeen, run_seen_of}
+use Rattle.jac_serve_events.specs.RunSeen.{Grew, RunSeen, run_seen_of, run_seen_with}
 use Rattle.jac_serve_events.specs.Log.{audit_lines}
 use Rattle.jac_serve_events.specs.Outside.{span}
 use Rattle.jac_connections.specs.Door.{LinkVisit, AreVisited}
@@ -19,7 +19,7 @@ use Rattle.jac_cli.specs.Words.{command_of}
 use Rattle.jac_dispatch.specs.Answered.{answer_spec_of, AreEntries}
 use Rattle.jac_dispatch.specs.Log.{AreAnswered, after_entry, after_log, faults_in}
 use Rattle.jac_run_laws.specs.Doors.{HasServed, IsDoorServed}
-use Rattle.jac_run_laws.specs.Replayed.{TopRun, IsTopRun, IsToldToEnd}
+use Rattle.jac_run_laws.specs.Replayed.{TopRun, IsTopRun, IsToldToEnd, counts_of}
 use Rattle.jac_run_laws.proofs.DoorRuns.{has_served}
 use Rattle.jac_headline.specs.Headline.{HasServedFaithfully}
 use Rattle.jac_headline.proofs.RightAnswers.{faithful_log}
@@ -96,7 +96,7 @@ door_told serving top app sessions start visits log audit lines same served =
 faithfully : {L : Type 0} (serving : ServeArgs) (top : TopRun L) → HasServed serving top → IsToldToEnd top → HasServedFaithfully serving top
 faithfully serving top run ended =
     let s = run.door_served in
-    let on = visits_on top.line serving.lazy run.app run.sessions 1 0 (run_seen_of s.opened top.splits.before) (run_seen_of top.seen.keeper.after top.splits.after)
+    let on = visits_on top.line serving.lazy run.app run.sessions 1 0 (run_seen_of s.opened (counts_of top).before) (run_seen_with top.seen.keeper.after (counts_of top).after s.left)
     run.visits run.log run.audit s.visited ended.keeper in
     let told = door_told serving top run.app run.sessions run.start run.visits run.log run.audit (audit_lines run.log) s.audit_is s in
     record {

@@ -12,10 +12,16 @@ use Rattle.jac_run_laws.specs.Replayed.{TopRun, IsTopRun, IsToldToEnd}
 use Rattle.jac_main.specs.Start.{BeginsEmpty}
 use Rattle.jac_headline.specs.Headline.{Given, HoldGiven, IsReplayTold, HasReplayedFaithfully, HasServedFaithfully}
 
-abbrev pub top_run : {L : Type 0} → (L → LinkSeen) → Sight → Span (DoorSeen L) → Span ℕ → Status
-    → TopRun L
-top_run line seen door splits status =
-    record { line = line; seen = seen; door = door; splits = splits; status = status }
+abbrev pub top_run : {L : Type 0} → (L → LinkSeen) → Sight → Span (DoorSeen L) → Span ℕ
+    → Span ℕ → Status → TopRun L
+top_run line seen door splits evaluations status = record {
+  line = line;
+  seen = seen;
+  door = door;
+  splits = splits;
+  evaluations = evaluations;
+  status = status;
+}
 
 -- its store begins empty; the contract of the top call holds; a replay or a serve that is told to
 -- its end is faithful

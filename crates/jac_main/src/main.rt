@@ -107,7 +107,7 @@ fn run_host<O: Outside, L: Ledger, M: Ledger>(
         (sink_seen [] 0) (⟦<HostAudit<'static> as Sink>⟧.seen host.new.audit)
         (⟦<HostVault as Keeper>⟧.seen vault.old) (⟦<HostVault as Keeper>⟧.seen vault.new))
         (span (door_seen O.inputs [] [] 0) (⟦<HostDoor<'static, O> as Door>⟧.seen host.new.door))
-        (span splits.old splits.new) result) }
+        (span splits.old splits.new) (span evaluations.old evaluations.new) result) }
 {
     run(
         rt.alloc(),

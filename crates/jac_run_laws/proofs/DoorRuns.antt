@@ -9,7 +9,7 @@ use Rattle.jac_app_load.specs.Application.{IsApplication}
 use Rattle.jac_app_text_laws.proofs.OneSpelled.{one_spelled}
 use Rattle.jac_route.specs.declared.sessions.Session.{Session}
 use Rattle.jac_connections.specs.Door.{LinkVisit, AreVisited, open_visits}
-use Rattle.jac_serve_events.specs.RunSeen.{RunSeen, run_seen_of}
+use Rattle.jac_serve_events.specs.RunSeen.{RunSeen, run_seen_of, run_seen_with}
 use Rattle.jac_serve_events.specs.Outside.{span, Took}
 use Rattle.jac_cli.specs.declared.words.Command.{Command}
 use Rattle.jac_cli.specs.declared.words.Command.TheVariants as commands
@@ -24,7 +24,7 @@ use Rattle.jac_app.specs.Held.{held_of}
 use Rattle.jac_app.specs.Server.{IsServedAt, IsServer, EndsServer}
 use Rattle.jac_app.specs.Run.{Ends, Runs}
 use Rattle.jac_noninterference.specs.TwoRuns.{LookSame, NoneFailed}
-use Rattle.jac_run_laws.specs.Replayed.{TopRun, IsTopRun, IsToldToEnd, HoldSessions, TellsNoFailure, TellsPage, HaveSmallLabels}
+use Rattle.jac_run_laws.specs.Replayed.{TopRun, IsTopRun, IsToldToEnd, HoldSessions, TellsNoFailure, TellsPage, HaveSmallLabels, counts_of}
 use Rattle.jac_run_laws.specs.Doors.{HoldServing, HasServed, AreTakenAlike, HoldSameMore}
 use Rattle.jac_run_laws.proofs.Replays.{not_done, no_usage, no_memory, closes_not_done, same_command, sessions_held}
 use Rattle.jac_run_laws.proofs.SameReplays.{AreSameFiles, same_bytes, one_sessions}
@@ -37,7 +37,7 @@ all_returned visits last none = ap (λ o. visits ++ open_visits o) none ∙ appe
 -- out stood so where the steps ended
 module _ {L : Type 0} (serving : ServeArgs) (top : TopRun L) (standing : SinkSeen) (told : IsToldToEnd top) (out audit : List ℕ) (audit_took : Took top.seen.audit audit) where
   door_served : (app : Application) (sessions : List Session) (files : HoldServing top.seen.files.before.file serving app sessions)
-      → IsServedAt top.line app sessions serving top.door (held_of top.seen top.splits) (Ok tt) (sinks_of (standing_at top.seen standing)) out audit
+      → IsServedAt top.line app sessions serving top.door (held_of top.seen (counts_of top)) (Ok tt) (sinks_of (standing_at top.seen standing)) out audit
       → HasServed serving top
   door_served app sessions files on =
       let links = on.ends.ends.1 in
@@ -52,6 +52,7 @@ module _ {L : Type 0} (serving : ServeArgs) (top : TopRun L) (standing : SinkSee
         held = files;
         door_served = record {
           opened = on.opened;
+          left = on.left;
           attached = on.attached;
           starts = refl;
           came = λ tells. subst (λ (vs : List (LinkVisit L)). top.door.before.coming ≡ map (λ (v : LinkVisit L). v.came) vs ++ top.door.after.coming) all (links.came tells);
@@ -59,14 +60,14 @@ module _ {L : Type 0} (serving : ServeArgs) (top : TopRun L) (standing : SinkSee
           visited =
               subst
               (λ (vs : List (LinkVisit L)). AreVisited top.line (answer_spec_of serving.lazy app sessions) 1 0
-              (run_seen_of on.opened top.splits.before) vs links.log audit (run_seen_of top.seen.keeper.after top.splits.after))
+              (run_seen_of on.opened (counts_of top).before) vs links.log audit (run_seen_with top.seen.keeper.after (counts_of top).after on.left))
               all links.visited;
           audit_is = links.audit_text;
           audit_took = audit_took;
         };
       }
 
-  server_served : IsServer top.line (standing_at top.seen standing) top.door top.splits serving (Ok tt) out audit → HasServed serving top
+  server_served : IsServer top.line (standing_at top.seen standing) top.door (counts_of top) serving (Ok tt) out audit → HasServed serving top
   server_served s =
       door_served s.app s.sessions
       (record {
@@ -77,22 +78,22 @@ module _ {L : Type 0} (serving : ServeArgs) (top : TopRun L) (standing : SinkSee
       })
       s.ends.1
 
-  ends_served : EndsServer top.line (standing_at top.seen standing) top.door top.splits serving (Ok tt) out audit → HasServed serving top
+  ends_served : EndsServer top.line (standing_at top.seen standing) top.door (counts_of top) serving (Ok tt) out audit → HasServed serving top
   ends_served (inl early) = absurd early.0
   ends_served (inr s) = server_served s
 
 module _ {L : Type 0} (words : List (List ℕ)) (serving : ServeArgs) (top : TopRun L) (is_serve : command_of words ≡ Some (commands.Serve serving)) (told : IsToldToEnd top) (out audit : List ℕ) (audit_took : Took top.seen.audit audit) where
   served_so : (command : Command) (ended : Result (Unit {0}) ExitReason) (standing : SinkSeen) (served last : List ℕ)
       → command ≡ commands.Serve serving
-      → Ends top.line (standing_at top.seen standing) top.door top.splits command ended served audit
+      → Ends top.line (standing_at top.seen standing) top.door (counts_of top) command ended served audit
       → Finishes (span standing top.seen.out.after) command ended last top.status → HasServed serving top
   served_so command (Ok tt) standing served last same ends finishes =
       ends_served serving top standing told served audit audit_took
-      (subst (λ (c : Command). Ends top.line (standing_at top.seen standing) top.door top.splits c (Ok tt) served audit) same ends)
+      (subst (λ (c : Command). Ends top.line (standing_at top.seen standing) top.door (counts_of top) c (Ok tt) served audit) same ends)
   served_so command (Err exit_reason) standing served last same ends finishes =
       absurd (closes_not_done (span standing top.seen.out.after) _ last (status_of exit_reason) top.status (not_done exit_reason) finishes told.done)
 
-  served_ran : Runs top.line top.seen top.door top.splits words top.status out audit → HasServed serving top
+  served_ran : Runs top.line top.seen top.door (counts_of top) words top.status out audit → HasServed serving top
   served_ran (inl r) = served_so r.command r.ended r.standing r.served r.last (same_command r.command (commands.Serve serving) (sym r.is_command ∙ is_serve)) r.ends r.finishes
   served_ran (inr (inl r)) = absurd (closes_not_done top.seen.out _ out statuses.Usage top.status no_usage r.closes told.done)
   served_ran (inr (inr r)) = absurd (closes_not_done top.seen.out _ out statuses.Memory top.status no_memory r.closes told.done)
@@ -119,16 +120,16 @@ same_sessions file other serving app app' sessions sessions' same held held' =
 
 module _ {L M : Type 0} (serving : ServeArgs) (one : TopRun L) (two : TopRun M) (first : HasServed serving one) (second : HasServed serving two) (files : AreSameFiles one.seen.files.before.file two.seen.files.before.file) where
   abbrev opened : RunSeen
-  opened = run_seen_of first.door_served.opened one.splits.before
+  opened = run_seen_of first.door_served.opened (counts_of one).before
 
   abbrev opened' : RunSeen
-  opened' = run_seen_of second.door_served.opened two.splits.before
+  opened' = run_seen_of second.door_served.opened (counts_of two).before
 
   abbrev left : RunSeen
-  left = run_seen_of one.seen.keeper.after one.splits.after
+  left = run_seen_with one.seen.keeper.after (counts_of one).after first.door_served.left
 
   abbrev left' : RunSeen
-  left' = run_seen_of two.seen.keeper.after two.splits.after
+  left' = run_seen_with two.seen.keeper.after (counts_of two).after second.door_served.left
 
   -- the second one served the application and the sessions of the first
   there : AreVisited two.line (answer_spec_of serving.lazy first.app first.sessions) 1 0 opened' second.visits second.log second.audit left'

@@ -8,3 +8,4 @@ pub mod SameBytes
 pub mod OneLink
 pub mod DoorLinks
 pub mod DoorRuns
+pub mod FewAnswers

@@ -6,7 +6,7 @@ use Rattle.jac_events.specs.declared.event.Event.{Event}
 use Rattle.jac_hub.specs.Heard.{no_connections}
 use Rattle.jac_route.specs.declared.sessions.Session.{Session}
 use Rattle.jac_serve_events.specs.AnswerSpec.{LogEntry}
-use Rattle.jac_serve_events.specs.RunSeen.{RunSeen, run_seen_of}
+use Rattle.jac_serve_events.specs.RunSeen.{RunSeen, run_seen_of, run_seen_with}
 use Rattle.jac_serve_events.specs.Log.{Brings}
 use Rattle.jac_serve_events.specs.Outside.{Span, span, Took}
 use Rattle.jac_serve_events.specs.Script.{script_of}
@@ -26,7 +26,7 @@ use Rattle.jac_dispatch.specs.Log.{Serves}
 use Rattle.jac_app.specs.Held.{held_of}
 use Rattle.jac_app.specs.Replay.{IsServedOn, IsServing, EndsReplay}
 use Rattle.jac_app.specs.Run.{Ends, Runs}
-use Rattle.jac_run_laws.specs.Replayed.{TopRun, IsTopRun, IsToldToEnd, HoldSessions, HasReplayed}
+use Rattle.jac_run_laws.specs.Replayed.{TopRun, IsTopRun, IsToldToEnd, HoldSessions, HasReplayed, counts_of}
 
 -- what the top call promises of the events that an application was served
 pub serves : (lazy early : Bool) (app : Application) (sessions : List Session) (k : Span RunSeen) (events : List Event) (log : List LogEntry)
@@ -85,7 +85,7 @@ sessions_held files (Some name) sessions told (bytes, read, listed) = (bytes, re
 -- out stood so where the steps ended
 module _ {L : Type 0} (replay : Replay) (top : TopRun L) (standing : SinkSeen) (told : IsToldToEnd top) (out audit : List ℕ) (out_took : Took top.seen.out out) (audit_took : Took top.seen.audit audit) where
   replayed_on : (app : Application) (sessions : List Session) (bytes : List ℕ) → IsOpened (standing_at top.seen standing) (commands.Replay replay) app sessions bytes
-      → IsServedOn (commands.Replay replay) app sessions (held_of top.seen top.splits) (script_of bytes) (Ok tt)
+      → IsServedOn (commands.Replay replay) app sessions (held_of top.seen (counts_of top)) (script_of bytes) (Ok tt)
       (sinks_of (standing_at top.seen standing)) out audit
       → HasReplayed replay top
   replayed_on app sessions bytes opened on =
@@ -122,36 +122,37 @@ module _ {L : Type 0} (replay : Replay) (top : TopRun L) (standing : SinkSeen) (
           whole = refl;
           served =
               serves replay.lazy false app sessions
-              (span (run_seen_of on.opened top.splits.before) (run_seen_of top.seen.keeper.after top.splits.after))
+              (span (run_seen_of on.opened (counts_of top).before) (run_seen_with top.seen.keeper.after (counts_of top).after on.left))
               (script_of bytes).events lines.log lines.served told.keeper;
           brought = (lines.later, brings);
           audit_is = lines.audit_text;
           out_took = out_took;
           audit_took = audit_took;
         };
+        few = record { left = on.left; few = lines.served.entries.few };
       }
 
-  replayed_by : IsServing (standing_at top.seen standing) top.splits (commands.Replay replay) (Ok tt) out audit → HasReplayed replay top
+  replayed_by : IsServing (standing_at top.seen standing) (counts_of top) (commands.Replay replay) (Ok tt) out audit → HasReplayed replay top
   replayed_by serving = replayed_on serving.app serving.sessions serving.events serving.opened serving.ends.1
 
-  replayed_ends : EndsReplay (standing_at top.seen standing) top.splits (commands.Replay replay) (Ok tt) out audit → HasReplayed replay top
+  replayed_ends : EndsReplay (standing_at top.seen standing) (counts_of top) (commands.Replay replay) (Ok tt) out audit → HasReplayed replay top
   replayed_ends (inl early) = absurd early.0
   replayed_ends (inr serving) = replayed_by serving
 
 module _ {L : Type 0} (words : List (List ℕ)) (replay : Replay) (top : TopRun L) (is_replay : command_of words ≡ Some (commands.Replay replay)) (told : IsToldToEnd top) (out audit : List ℕ) (out_took : Took top.seen.out out) (audit_took : Took top.seen.audit audit) where
   replayed_so : (command : Command) (ended : Result (Unit {0}) ExitReason) (standing : SinkSeen) (served last : List ℕ)
       → command ≡ commands.Replay replay
-      → Ends top.line (standing_at top.seen standing) top.door top.splits command ended served audit
+      → Ends top.line (standing_at top.seen standing) top.door (counts_of top) command ended served audit
       → Finishes (span standing top.seen.out.after) command ended last top.status
       → out ≡ served ++ last → HasReplayed replay top
   replayed_so command (Ok tt) standing served last same ends finishes text =
       let all : out ≡ served = text ∙ ap (λ (l : List ℕ). served ++ l) finishes.0 ∙ append-nil served in
-      let here = subst (λ (c : Command). Ends top.line (standing_at top.seen standing) top.door top.splits c (Ok tt) served audit) same ends in
+      let here = subst (λ (c : Command). Ends top.line (standing_at top.seen standing) top.door (counts_of top) c (Ok tt) served audit) same ends in
       replayed_ends replay top standing told served audit (subst (λ (l : List ℕ). Took top.seen.out l) all out_took) audit_took here.0
   replayed_so command (Err exit_reason) standing served last same ends finishes text =
       absurd (closes_not_done (span standing top.seen.out.after) _ last (status_of exit_reason) top.status (not_done exit_reason) finishes told.done)
 
-  replayed_ran : Runs top.line top.seen top.door top.splits words top.status out audit → HasReplayed replay top
+  replayed_ran : Runs top.line top.seen top.door (counts_of top) words top.status out audit → HasReplayed replay top
   replayed_ran (inl r) =
       replayed_so r.command r.ended r.standing r.served r.last (same_command r.command (commands.Replay replay) (sym r.is_command ∙ is_replay)) r.ends r.finishes r.out_text
   replayed_ran (inr (inl r)) = absurd (closes_not_done top.seen.out _ out statuses.Usage top.status no_usage r.closes told.done)

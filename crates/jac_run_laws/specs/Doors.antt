@@ -11,14 +11,15 @@ use Rattle.jac_app_load.specs.Application.{IsApplication}
 use Rattle.jac_route.specs.declared.sessions.Session.{Session}
 use Rattle.jac_connections.specs.Door.{LinkVisit, AreVisited}
 use Rattle.jac_serve_events.specs.AnswerSpec.{LogEntry}
-use Rattle.jac_serve_events.specs.RunSeen.{run_seen_of}
+use Rattle.jac_serve_events.specs.RunSeen.{run_seen_of, run_seen_with}
 use Rattle.jac_serve_events.specs.Log.{audit_lines}
 use Rattle.jac_serve_events.specs.Outside.{Took}
 use Rattle.jac_cli.specs.declared.words.ServeArgs.{ServeArgs}
 use Rattle.jac_command_base.specs.Attached.{IsAttached}
 use Rattle.jac_dispatch.specs.Answered.{answer_spec_of}
+use Rattle.jac_viewer_caches.specs.declared.viewer_caches.ViewerEntry.{ViewerEntry}
 use Rattle.jac_noninterference.specs.TwoRuns.{LookSame, seen_answer}
-use Rattle.jac_run_laws.specs.Replayed.{TopRun, HoldSessions}
+use Rattle.jac_run_laws.specs.Replayed.{TopRun, HoldSessions, counts_of}
 
 -- the files of a serve hold this application and these sessions
 pub record HoldServing (file : List ℕ → Option (List ℕ)) (serving : ServeArgs) (app : Application)
@@ -30,11 +31,12 @@ pub record HoldServing (file : List ℕ → Option (List ℕ)) (serving : ServeA
 
 -- the links that a door gave were served one after another, from what the store had once it was
 -- attached, where a GET's page resolves only what it consults if the words say so; the log is that
--- of all of them, whose audit lines were put
+-- of all of them, whose audit lines were put. Something is left at the end for those who looked
 pub record IsDoorServed {L : Type 0} (serving : ServeArgs) (top : TopRun L) (app : Application)
     (sessions : List Session) (start : State) (visits : List (LinkVisit L)) (log : List LogEntry)
     (audit : List ℕ) : Type 0 where
   pub opened : KeeperSeen
+  pub left : List ViewerEntry
   pub attached : IsAttached serving.db app top.seen.keeper opened
   pub starts : start ≡ opened.state
   pub came :
@@ -45,8 +47,8 @@ pub record IsDoorServed {L : Type 0} (serving : ServeArgs) (top : TopRun L) (app
       → top.door.after.returned ≡ top.door.before.returned ++ map (λ visit. visit.gone) visits
   pub visited :
       AreVisited top.line (answer_spec_of serving.lazy app sessions) 1 0
-      (run_seen_of opened top.splits.before) visits log audit
-      (run_seen_of top.seen.keeper.after top.splits.after)
+      (run_seen_of opened (counts_of top).before) visits log audit
+      (run_seen_with top.seen.keeper.after (counts_of top).after left)
   pub audit_is : audit ≡ audit_lines log
   pub audit_took : Took top.seen.audit audit
 

@@ -1,6 +1,6 @@
 -- Two runs of the top call that replay the same words over the same files: what each of them read,
 -- the log of what it answered, and what it put.
-use Rattle.std.specs.Prelude.{◌≡◌, ◌⊎◌, ⊤, ℕ, false, ◌<◌, ◌^◌, IsTrue, Ok, Option, Some, None, List, [], ◌∷◌, ◌++◌, codes, decimal}
+use Rattle.std.specs.Prelude.{◌≡◌, ◌⊎◌, ⊤, ℕ, Bool, false, ◌<◌, ◌^◌, IsTrue, Ok, Option, Some, None, List, [], ◌∷◌, ◌++◌, codes, decimal}
 use Rattle.std.specs.List.{AllByRecursion}
 use Rattle.jac_io.specs.Linked.{LinkSeen, DoorSeen}
 use Rattle.jac_lang.specs.Syntax.{Application}
@@ -14,29 +14,47 @@ use Rattle.jac_replies.specs.declared.answer.Ask.{Ask}
 use Rattle.jac_replies.specs.Spelled.{audit_text}
 use Rattle.jac_serve_events.specs.AnswerSpec.{LogEntry}
 use Rattle.jac_serve_events.specs.Log.{Brings, audit_lines}
-use Rattle.jac_serve_events.specs.Outside.{Span, Took}
+use Rattle.jac_serve_events.specs.Outside.{Span, span, Took}
+use Rattle.jac_serve_events.specs.RunSeen.{RunCounts, run_counts, run_seen_of, run_seen_with}
 use Rattle.jac_serve_events.specs.Script.{script_of}
 use Rattle.jac_cli.specs.declared.words.Replay.{Replay}
 use Rattle.jac_command_base.specs.declared.status.Status.{Status}
 use Rattle.jac_command_base.specs.declared.status.Status.TheVariants as statuses
-use Rattle.jac_dispatch.specs.Answered.{answer_spec_of}
+use Rattle.jac_dispatch.specs.Answered.{AreFewAtFirst, answer_spec_of}
 use Rattle.jac_command_base.specs.Files.{Sight}
 use Rattle.jac_command_base.specs.Attached.{IsAttached}
+use Rattle.jac_viewer_caches.specs.declared.viewer_caches.ViewerEntry.{ViewerEntry}
 use Rattle.jac_app.specs.Run.{IsRun}
 use Rattle.jac_noninterference.specs.TwoRuns.{OneRun, IsRunServed}
 
+-- from an opened store to this end, the first answer to each viewer took few evaluations, where so
+-- much was counted before and after the call; something is left then for those who looked
+pub record AreFewFrom (lazy : Bool) (app : Application) (finish : KeeperSeen)
+    (counts : Span RunCounts) (opened : KeeperSeen) (log : List LogEntry) : Type 0 where
+  pub left : List ViewerEntry
+  pub few :
+      AreFewAtFirst lazy app
+      (span (run_seen_of opened counts.before) (run_seen_with finish counts.after left)) log
+
 -- a call of the program's top function: how it sees a link, what it sees of the outside, its door,
--- how many facets were split, and its status
+-- how many facets were split, how often policies were evaluated, and its status
 pub record TopRun (L : Type 0) : Type 0 where
   pub line : L → LinkSeen
   pub seen : Sight
   pub door : Span (DoorSeen L)
   pub splits : Span ℕ
+  pub evaluations : Span ℕ
   pub status : Status
+
+-- what was counted before and after
+abbrev pub counts_of : {L : Type 0} → TopRun L → Span RunCounts
+counts_of top =
+    span (run_counts top.splits.before top.evaluations.before)
+    (run_counts top.splits.after top.evaluations.after)
 
 -- it ran with these words
 abbrev pub IsTopRun : {L : Type 0} → List (List ℕ) → TopRun L → Type 0
-IsTopRun words top = IsRun top.line top.seen top.door top.splits words top.status
+IsTopRun words top = IsRun top.line top.seen top.door (counts_of top) words top.status
 
 -- it ended with status 0, and its files and its store tell to the end
 pub record IsToldToEnd {L : Type 0} (top : TopRun L) : Type 0 where
@@ -83,7 +101,8 @@ pub record IsReplayed {L : Type 0} (replay : Replay) (top : TopRun L) (app : App
   pub out_took : Took top.seen.out out
   pub audit_took : Took top.seen.audit audit
 
--- what a replay read, and how it answered that
+-- what a replay read, and how it answered that; the first answer to each viewer took few
+-- evaluations
 pub record HasReplayed {L : Type 0} (replay : Replay) (top : TopRun L) : Type 0 where
   pub app : Application
   pub sessions : List Session
@@ -93,6 +112,7 @@ pub record HasReplayed {L : Type 0} (replay : Replay) (top : TopRun L) : Type 0 
   pub audit : List ℕ
   pub held : HoldReplay top.seen.files.before.file replay app sessions events
   pub replayed : IsReplayed replay top app sessions events run out audit
+  pub few : AreFewFrom replay.lazy app top.seen.keeper.after (counts_of top) replayed.opened run.log
 
 -- two replays read the same, and each answered that
 pub record HaveReplayed {L M : Type 0} (replay : Replay) (one : TopRun L) (two : TopRun M)

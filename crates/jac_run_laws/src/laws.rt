@@ -12,7 +12,7 @@ ghost use Rattle.jac_cli.specs.declared.words.ServeArgs.{ServeArgs};
 ghost use Rattle.jac_noninterference.specs.TwoRuns.{OneRun, IsRunServed, LookSame, NoneFailed};
 ghost use Rattle.jac_run_laws.specs.Audited.{HaveSmallNumbers, HaveSmallSources, AreAuditedAlike, AreToldAlike};
 ghost use Rattle.jac_run_laws.specs.Doors.{HasServed, AreTakenAlike, AreLikeWhereShown, HoldSameMore};
-ghost use Rattle.jac_run_laws.specs.Replayed.{TopRun, IsTopRun, IsToldToEnd, IsReplayed, HasReplayed, HaveReplayed, TellsNoFailure, TellsPage, HaveSmallLabels};
+ghost use Rattle.jac_run_laws.specs.Replayed.{TopRun, IsTopRun, IsToldToEnd, IsReplayed, HasReplayed, HaveReplayed, TellsNoFailure, TellsPage, HaveSmallLabels, AreFewFrom, counts_of};
 
 /// A law: a replay that ended with status 0, and whose files and store tell to the end, read an
 /// application, sessions and events in its files, and answered these events from what its store had
@@ -63,6 +63,15 @@ pub fn serve_answers<L>()
     ensures { (words : List (List ℕ)) (serving : ServeArgs) (top : TopRun L) →
         IsTopRun words top → command_of words ≡ Some (commands.Serve serving) → IsToldToEnd top →
         HasServed serving top }
+{}
+
+/// A law: of such a serve, in a local application over a local state, the first answer to each
+/// viewer that is no failure took at most 256 evaluations of policies for each live label of the
+/// state that it left, whichever link it went to. Nothing is said with `--lazy`.
+pub fn first_answers_are_few<L>()
+    ensures { (serving : ServeArgs) (top : TopRun L) (run : HasServed serving top) →
+        AreFewFrom serving.lazy run.app top.seen.keeper.after (counts_of top)
+        run.door_served.opened run.log }
 {}
 
 /// A law: let two such serves, over files that hold the same, have got links with the same input,
