@@ -2,7 +2,8 @@
 """Compares the modes for editors (editors/) with the table that they are made of, the table with docs/LANGUAGE.md, and
 the modes with the examples. No words. Prints each that is wrong, and ends with a count.
 
-Each form of docs/LANGUAGE.md is in the table, and each word of the table is a form there. In the examples each word
+Each form of docs/LANGUAGE.md is in the table, and each word of the table is a form there. The random applications, the
+reference interpreter and the places of faults have each form, and tools/form_places.py finds it. In the examples each word
 that begins a form has the group of its kind, by Vim, which is skipped where it isn't installed, and by the grammar in
 TextMate's form, which is read by a few lines here as an editor reads it."""
 import glob
@@ -21,8 +22,10 @@ from support.pages import TOP, read                                         # no
 sys.path.insert(0, os.path.join(TOP, 'tools'))
 import editors                                                              # noqa: E402
 import fault_place                                                          # noqa: E402
+import form_places                                                          # noqa: E402
 
 PAGE = 'docs/LANGUAGE.md'
+COMPARED = 'checks/compare.py', 'checks/reference_interpreter.py'
 CODE = re.compile(r'`([^`\n]+)`')
 APART = re.compile(r'(?m)(?:^    .*\n)+')
 HEAD = re.compile(r'\(([a-z]+)(?=[\s)])')
@@ -97,7 +100,12 @@ def of_language():
     for word in [*fault_place.STATEMENTS, *fault_place.EXPRESSIONS]:
         yield None if known.get(word, set()) & {'statement', 'expression'} else 'editors/forms.txt has no %s' % word
     for word in editors.table()['statement'] + editors.table()['expression']:
-        yield None if word in fault_place.SHAPES else 'the program has no form %s' % word
+        yield None if word in fault_place.SHAPES else 'tools/fault_place.py has no form %s' % word
+        yield None if form_places.names(word) else 'tools/form_places.py finds no form %s' % word
+        # a template is expanded before an application is compared
+        for path in (COMPARED if word != 'template' else ()):
+            made = re.search(r"'%s'|\b(?:mean|run)_%s\b" % (word, word), read(path))
+            yield None if made else '%s has no form %s' % (path, word)
 
 
 def of_block(block):

@@ -1,8 +1,8 @@
 #!/usr/bin/env python3
 """Copies the libraries that a gate has proved in one clone into another, so that `rt check` there doesn't prove the
-crates below once more. Words: the clone that lacks them, and the one that has them. Takes a library only where its
-text, and that of all below it, is the same in both, and tells which it took. It is an aid for whoever works on a
-crate: the gate itself takes nothing that was kept."""
+crates below once more. Takes a library only where its text, and that of all below it, is the same in both, and tells
+which it took. It is an aid for whoever works on a crate: the gate itself takes nothing that was kept."""
+import argparse
 import os
 import shutil
 import sys
@@ -47,5 +47,13 @@ def stock(rtlib, top, source):
         print(name)
 
 
+def main():
+    words = argparse.ArgumentParser(description=__doc__)
+    words.add_argument('clone', help='the clone that lacks them')
+    words.add_argument('source', help='the clone that has them')
+    given = words.parse_args()
+    stock(load(), os.path.abspath(given.clone), os.path.abspath(given.source))
+
+
 if __name__ == '__main__':
-    stock(load(), *(os.path.abspath(word) for word in sys.argv[1:3]))
+    main()
