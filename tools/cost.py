@@ -7,8 +7,10 @@ was measured is written down beside the clone, so that a run that was cut short 
 the crates stay; `--anew` begins again.
 
 With `--gate` it runs the gate itself, `rt ci`, here and once, and measures that; what it proves is kept as by any gate. On
-a machine that keeps nothing that is the whole table, and the time by the clock: where a crate was kept its row is lacking,
-and nothing is written.
+a machine that keeps nothing that is the whole table, and the time by the clock. With names of crates behind it, it runs
+`rt ci NAME ..`, and adds what that took to what earlier gates took that were measured on this machine, in a file among
+the temporary ones: so a table can be of several gates, each of which proved what those before it had not. Where a crate
+was kept from a run that wasn't measured, its row is lacking, and nothing is written.
 
 A crate's edits cost a check of the crate, which they begin with, one over it for each of them, and one at the end, as
 in `rt ci`. The minutes are those of the processors, by the system's count of a process and of all that it waited for,
@@ -28,7 +30,7 @@ from costs import HEAD, PAGE, costs                                         # no
 from crates import below, crates                                            # noqa: E402
 from gate import measured                                                   # noqa: E402
 from support.pages import differences                                       # noqa: E402
-from schedule import Schedule, Task, free_memory, processors                # noqa: E402
+from schedule import Schedule, Task, computed, free_memory, processors                # noqa: E402
 
 PROOF, TESTS, EDITS = STEPS = 'proof', 'tests', 'edits'
 
@@ -177,23 +179,36 @@ def table(notes, names, when, how='runs of one crate each'):
     return '\n'.join([said, '', *HEAD, *rows])
 
 
-class Found:
-    """What was found of the steps."""
+def how_long(measures, names):
+    """The runs that were measured, and what a run over all would take on two processors and on four."""
+    def minutes(what, name):
+        return measures.found[what, name][0]
 
-    def __init__(self, found):
-        self.found = found
+    every, tasks = crates(), []
+    for what, name in measures.found:
+        if name in names:
+            after = [(PROOF, other) for other in every[name]] if what == PROOF else [(PROOF, name)]
+            tasks.append(Task((what, name), after, minutes(what, name), 0, None))
+    took = '%.0f minutes by the clock' % sum(measures.runs)
+    runs = 'a run of `rt ci` that took ' + took if len(measures.runs) == 1 else (
+        '%d runs of `rt ci`, each of which proved what those before it had not, and which took %s' % (
+            len(measures.runs), took))
+    return '%s (one run would take %.0f on two processors and %.0f on four, if they did nothing else)' % (
+        runs, computed(tasks, 2), computed(tasks, 4))
 
 
 def measure_gate(words):
-    """Runs the gate here, and prints or writes the table of it."""
-    gate = measured(TOP)
-    notes, names = Found(gate.found()), list(crates())
-    lacking = [name for name in names if (PROOF, name) not in notes.found]
-    print('%.0f minutes by the clock' % gate.minutes)
+    """Runs the gate here, and prints or writes the table of all that was measured on this machine."""
+    measures, names = measured(TOP, [word for word in words if not word.startswith('--')]), list(crates())
+    print('%.0f minutes by the clock' % measures.runs[-1])
+    lacking = ['%s of %s' % (what, name) for name in names for what in STEPS
+               if (what == PROOF or has(what, name)) and (what, name) not in measures.found]
     if lacking:
-        print('these were kept from an earlier run: ' + ' '.join(lacking))
+        print('these were not measured on this machine: ' + ', '.join(lacking))
         return 1
-    rows = table(notes, names, time.strftime('%-d %B %Y'), 'a run of `rt ci` that took %.0f minutes' % gate.minutes)
+    measures.found = {(what, name): it for (what, name), it in measures.found.items()
+                      if name in names and (what == PROOF or has(what, name))}
+    rows = table(measures, names, time.strftime('%-d %B %Y'), how_long(measures, names))
     print(rows)
     if '--write' in words:
         differences(PAGE, {'cost': rows}, 'tools/cost.py', True)

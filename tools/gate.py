@@ -1,10 +1,12 @@
 """What a gate under way takes, crate by crate: the processor time of each prover, and its most memory, as the system tells
 them twice a second until it ends. What a prover does behind the last look at it isn't counted, which is a quarter of a
 second of each on the average."""
+import json
 import os
 import re
 import subprocess
 import sys
+import tempfile
 import time
 
 LOOK = 0.5
@@ -45,11 +47,11 @@ def words_of(process):
 
 
 class Gate:
-    """The gate of a clone, from its beginning to its end."""
+    """The gate of a clone, from its beginning to its end, over all crates or over those of these names."""
 
-    def __init__(self, folder):
+    def __init__(self, folder, names):
         self.began, self.provers = time.monotonic(), {}
-        self.process = subprocess.Popen(['rt', 'ci'], cwd=folder, stdin=subprocess.DEVNULL)
+        self.process = subprocess.Popen(['rt', 'ci', *names], cwd=folder, stdin=subprocess.DEVNULL)
 
     def run(self):
         """Waits until it ends, and returns its status."""
@@ -98,9 +100,34 @@ class Gate:
         return steps
 
 
-def measured(folder):
-    """The gate that was run there, or the end of this script, where it failed."""
-    gate = Gate(folder)
-    if gate.run():
+class Measures:
+    """What gates took that were measured on this machine since it was started anew: the minutes of each by the clock, and
+    by step and crate the processor minutes and the most MB of the last gate that had to do it."""
+
+    def __init__(self, folder=tempfile.gettempdir()):
+        self.path = os.path.join(folder, 'jac-gate-measures.json')
+        self.runs, self.found = [], {}
+        if os.path.isfile(self.path):
+            with open(self.path, encoding='utf-8') as file:
+                kept = json.load(file)
+            self.runs = kept['runs']
+            self.found = {(what, name): (minutes, most) for what, name, minutes, most in kept['steps']}
+
+    def add(self, gate):
+        """Adds what the gate did, and keeps it."""
+        self.runs.append(gate.minutes)
+        self.found.update(gate.found())
+        steps = [[what, name, minutes, most] for (what, name), (minutes, most) in self.found.items()]
+        with open(self.path + '.new', 'w', encoding='utf-8') as file:
+            json.dump({'runs': self.runs, 'steps': steps}, file)
+        os.replace(self.path + '.new', self.path)
+
+
+def measured(folder, names):
+    """All that was measured, with the gate that is run there, or the end of this script, where it failed."""
+    gate, measures = Gate(folder, names), Measures()
+    status = gate.run()
+    measures.add(gate)
+    if status:
         sys.exit('the gate failed')
-    return gate
+    return measures

@@ -64,6 +64,22 @@ def chains(tasks):
     return found
 
 
+def computed(tasks, lanes):
+    """The minutes that the tasks would take, one job each, with so many side by side and room for all of them: of those
+    that may begin the one with the longest chain begins first."""
+    tasks = {task.name: task for task in tasks}
+    first, now, done, running = chains(tasks), 0, set(), {}
+    while len(done) < len(tasks):
+        ready = [task for task in tasks.values() if task.name not in done and task.name not in running
+                 and done.issuperset(task.after)]
+        for task in sorted(ready, key=lambda task: -first[task.name])[:lanes - len(running)]:
+            running[task.name] = now + task.minutes
+        ended = min(running, key=running.get)
+        now = running.pop(ended)
+        done.add(ended)
+    return now
+
+
 class Schedule:
     """The tasks, by name, those that are done and those under way."""
 
