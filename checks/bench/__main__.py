@@ -13,6 +13,7 @@ sys.path.insert(0, os.path.dirname(os.path.dirname(os.path.abspath(__file__))))
 
 BENCHES = {
     'times': 'one request of each kind, by the number of records, beside Flask; words: numbers of records',
+    'instructions': 'each kind of request that has a goal, by valgrind; words: parts of the names of the lines',
     'growth': 'instructions of guarded lists and POSTs, by valgrind; words: numbers of events',
     'lists': 'guarded lists of the calendar and the conference, beside Flask; words: numbers of records',
     'records': 'the page of one record among many; words: numbers of records',
