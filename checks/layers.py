@@ -2,7 +2,10 @@
 """Makes the table of docs/LAYERS.md from crates.txt: each storey with its crates, their promises, and the crates right
 below them. A crate that another one of the same line rests on is left out. Where the page is out of date it says so, and
 its status is 1. It also fails where a crate has no promise, or uses one that doesn't come before it. With the word
---write it writes the table anew. With the word --lines it prints the lines of code of each crate instead."""
+--write it writes the table anew. Instead, the word --lines prints the lines of code of each crate, and --laws the laws of
+each crate that no code calls: public functions whose comment begins with "A law"."""
+import os
+import re
 import sys
 
 sys.dont_write_bytecode = True
@@ -10,6 +13,7 @@ from support.pages import differences, read                                 # no
 from testing import of_crate                                                # noqa: E402
 
 PAGE = 'docs/LAYERS.md'
+LAW = re.compile(r'/// A law\b(?:.*\n *///)*.*\n *pub fn (\w+)')
 
 
 def storeys(text):
@@ -58,12 +62,32 @@ def table(found, own):
     return '\n'.join(lines).rstrip('\n')
 
 
+def sources(name):
+    """The texts of the crate's modules."""
+    folder = os.path.join('crates', name, 'src')
+    return [read(os.path.join(folder, file)) for file in sorted(os.listdir(folder)) if file.endswith('.rt')]
+
+
+def laws(found):
+    """A line for each crate that has laws which no function calls."""
+    names = [name for _, crates in found for name, _, _ in crates]
+    texts = {name: sources(name) for name in names}
+    called = set(re.findall(r'(?<!fn )\b(\w+)\(\)', '\n'.join(text for each in texts.values() for text in each)))
+    for name in names:
+        own = [law for text in texts[name] for law in LAW.findall(text) if law not in called]
+        if own:
+            yield '%s: %s' % (name, ', '.join(own))
+
+
 def main():
     found, wrong, own = storeys(read('crates.txt'))
     if '--lines' in sys.argv[1:]:
         for _, crates in found:
             for name, _, _ in crates:
                 print('%6d %s' % (of_crate(name)[0], name))
+        return
+    if '--laws' in sys.argv[1:]:
+        print('\n'.join(laws(found)))
         return
     wrong += differences(PAGE, {'crates': table(found, own)}, 'checks/layers.py', '--write' in sys.argv[1:])
     for line in wrong:
