@@ -24,6 +24,7 @@ use Rattle.jac_sql_spec.specs.Statements.{statements_with}
 use Rattle.jac_sql_spec.specs.Telling.{empty_state, IsAllCommitted, ReadsTold, AppliesTold, ReshapesTold, CanBeStored}
 use Rattle.jac_sql_spec.specs.Transaction.{Transacts, EndsCommitted}
 use Rattle.jac_sql_spec.proofs.Kept.{reshape_told}
+use Rattle.jac_sql_spec.proofs.Stays.{clean_if_open}
 use Rattle.sqlite_schema.specs.declared.schema.Schema.{Schema}
 use Rattle.sqlite.specs.Effect.{Database}
 use Rattle.jac_sql_spec.specs.Lasting.{ConnectionLasts, IsSeenUnmoved}
@@ -140,30 +141,40 @@ module _ {S : Type 0} (g : Ghosts S) (kinds : List (List Kind)) (given h : Held 
       → (IsTrue (state g h).is_open → (state g h).now ≡ (state g given).now) → Stood g given b
   stood_by b is lasts was same = subst (Stood g given) (sym is) (record { was_open = was; kept = λ opened. same_tables false (same opened); closes = lasts.closes; sure = λ law. law h.store })
 
+  -- a connection that is open was given with a disk that had returned what was written
+  clean_as_given : ((state g h).is_clean ≡ false → (state g h).is_open ≡ false) → ConnectionLasts (state g given) (state g h) → IsTrue (state g h).is_open → HasCleanDisk (state g given)
+  clean_as_given law lasts opened = let later = lasts.clean in let clean = clean_if_open (state g h) law opened in omega (arith, later, clean)
+
   -- a new store
-  pub begins_new : (schema : List ℕ) (nested : List Bool) → ConnectionLasts (state g given) (state g h) → (state g given).now.schema ≡ no_tables → (IsTrue (state g h).is_open → IsTrue (state g given).is_open)
+  pub begins_new : (schema : List ℕ) (nested : List Bool) → ((state g h).is_clean ≡ false → (state g h).is_open ≡ false) → ConnectionLasts (state g given) (state g h) → (state g given).now.schema ≡ no_tables → (IsTrue (state g h).is_open → IsTrue (state g given).is_open)
       → (IsTrue (state g h).is_open → told (length kinds) (state g h).now ≡ empty_state (length kinds)) → (IsTrue (state g h).is_open → schema_in (state g h).now ≡ schema)
       → Begins g schema kinds nested given (based_keeper g kinds true h)
-  begins_new schema nested lasts none was empty stored = record {
+  begins_new schema nested law lasts none was empty stored = record {
     tells = refl;
     fit = λ opened. fits_empty kinds nested _ (empty opened);
     stored = stored;
     made = λ none opened. empty opened;
     kept = λ some. absurd (some none);
+    same_state = λ some. absurd (some none);
+    same_schema = λ some. absurd (some none);
+    was_clean = clean_as_given law lasts;
     was_open = was;
     closes = lasts.closes;
     sure = λ law. law h.store;
   }
 
   -- one that was made before
-  pub begins_again : (schema : List ℕ) (nested : List Bool) → ConnectionLasts (state g given) (state g h) → (state g given).now.schema ≡ two_tables 0 1 2 → IsSeenUnmoved (state g given) (state g h)
+  pub begins_again : (schema : List ℕ) (nested : List Bool) → ((state g h).is_clean ≡ false → (state g h).is_open ≡ false) → ConnectionLasts (state g given) (state g h) → (state g given).now.schema ≡ two_tables 0 1 2 → IsSeenUnmoved (state g given) (state g h)
       → IsWhole g schema kinds nested h → Begins g schema kinds nested given (based_keeper g kinds true h)
-  begins_again schema nested lasts has left whole = record {
+  begins_again schema nested law lasts has left whole = record {
     tells = refl;
     fit = whole.fit;
     stored = whole.stored;
     made = λ none. absurd (some_tables (state g given).now.schema has none);
     kept = λ some opened. same_tables true (left.same opened);
+    same_state = λ some opened. ap (told (length kinds)) (left.same opened);
+    same_schema = λ some opened. sym (ap schema_in (left.same opened)) ∙ whole.stored opened;
+    was_clean = clean_as_given law lasts;
     was_open = left.was_open;
     closes = lasts.closes;
     sure = λ law. law h.store;

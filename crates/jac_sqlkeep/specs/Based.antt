@@ -6,6 +6,7 @@ use Rattle.sqlite_value.specs.Order.{Row as Values}
 use Rattle.sqlite.specs.declared.error.Error.{Error}
 use Rattle.sqlite.specs.Effect.{Database as Tables}
 use Rattle.sqlite.specs.Held.{Held, state}
+use Rattle.sqlite.specs.State.{HasCleanDisk}
 use Rattle.jac_io.specs.Faults.{Rose}
 use Rattle.jac_value.specs.declared.value.Kind.{Kind}
 use Rattle.jac_rows.specs.Good.{IsSound}
@@ -76,7 +77,8 @@ pub record Stood {S : Type 0} (g : Ghosts S) (given : Held S) (b : Based) : Type
 
 -- A store that may be called from now on: it has the schema, and tells its state, which fits the
 -- schema, while its connection is open. Where there was no table at all it is made, empty and with
--- the number 1; else it is what stood there.
+-- the number 1; else it is what stood there, by its rows and by what they tell. What stood there
+-- was read from a disk that had returned what was written.
 pub record Begins {S : Type 0} (g : Ghosts S) (schema : List ℕ) (kinds : List (List Kind))
     (nested : List Bool) (given : Held S) (b : Based) : Type 0 where
   pub tells : b.tells ≡ b.is_open
@@ -86,6 +88,11 @@ pub record Begins {S : Type 0} (g : Ghosts S) (schema : List ℕ) (kinds : List 
       → b.state ≡ empty_state (length kinds)
   pub kept : ¬ ((state g given).now.schema ≡ no_tables) → IsTrue b.is_open
       → HasTables (state g given).now b
+  pub same_state : ¬ ((state g given).now.schema ≡ no_tables) → IsTrue b.is_open
+      → b.state ≡ told (length kinds) (state g given).now
+  pub same_schema : ¬ ((state g given).now.schema ≡ no_tables) → IsTrue b.is_open
+      → schema_in (state g given).now ≡ schema
+  pub was_clean : IsTrue b.is_open → HasCleanDisk (state g given)
   pub was_open : IsTrue b.is_open → IsTrue (state g given).is_open
   pub closes : doubt b.is_clean ≡ 0 → IsTrue (state g given).is_open
       → IsTrue b.is_open ⊎ Rose (state g given).faults b.faults

@@ -1,5 +1,8 @@
 -- what opening a database leaves
 use Rattle.std.specs.Prelude.{◌≡◌, ◌≤◌, ℕ, List, Result, Err}
+use Rattle.sqlite_wal.specs.Recovery.{Image}
+use Rattle.sqlite.specs.State.{State as Sql, HasCleanDisk, Opens, IsLive}
+use Rattle.sqlite.specs.Start.{FindsIn}
 use Rattle.jac_io.specs.Faults.{Rose}
 use Rattle.jac_keep.specs.declared.vault.AttachFault.{AttachFault}
 use Rattle.jac_keep.specs.declared.vault.AttachFault.TheVariants.{Failed, Other}
@@ -9,3 +12,9 @@ pub record OpensFile {T : Type 0} (old new : ℕ) (result : Result T AttachFault
   pub later : old ≤ new
   pub rose : result ≡ Err Failed → Rose old new
   pub other : (stored : List ℕ) → ¬ (result ≡ Err (Other stored))
+
+-- a connection to files that held these bytes as they were opened: where the disk has returned what
+-- was written it is open, and its database is what the bytes stand for
+pub record IsFileGiven (image : Image) (s : Sql) : Type 0 where
+  pub opened : HasCleanDisk s → Opens s × IsLive s
+  pub found : HasCleanDisk s → FindsIn image s

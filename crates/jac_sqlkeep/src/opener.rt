@@ -1,15 +1,16 @@
-ghost use Rattle.std.specs.Prelude.{◌≡◌, ℕ, List, Option, Some, None, codes, false, Err, IfOk, IsErr};
+ghost use Rattle.std.specs.Prelude.{◌≡◌, ◌≤◌, ℕ, List, Option, Some, None, codes, false, Err, IfOk, IsErr};
 ghost use Rattle.std.specs.Option.{option_copied};
-ghost use Rattle.sqlite.specs.Files.{file_state, IsOpened};
+ghost use Rattle.sqlite.specs.Files.{file_state};
 ghost use Rattle.sqlite.specs.Held.{Held, IsNew, state};
-ghost use Rattle.sqlite.specs.State.{HasCleanDisk};
 ghost use Rattle.sqlite.specs.Steps.{over_memory, IsEmpty};
-ghost use Rattle.jac_sqlkeep.specs.Opening.{OpensFile};
+ghost use Rattle.sqlite_wal.specs.Files.{image_at};
+ghost use Rattle.jac_io.specs.Faults.{Rose};
+ghost use Rattle.jac_sqlkeep.specs.Opening.{OpensFile, IsFileGiven};
 
 use crate::cause::stop_of;
 use jac_keep::{AttachFault, Stop};
 use jac_value::Txt;
-use sqlite::{Alter, Connection, Error, ErrorCode, File, FileStore, MemStore, Unknown};
+use sqlite::{Alter, Connection, Error, ErrorCode, FileFrom, FileStore, MemStore, Start};
 use std::alloc::{AllocError, Global};
 use std::{fs, io};
 
@@ -48,32 +49,35 @@ pub enum OpenFault {
     Other,
 }
 
-/// Opens files.
+/// Opens a file, once. What it holds is supposed: where the disk is clean, the database is what
+/// these bytes of its log and its file stand for.
 #[derive(Drop)]
-pub struct FileOpener {
+pub struct FileOpener<S: Start> {
     rt: HostRuntime,
     makes: bool,
+    start: Option<S>,
     log: Option<Txt>,
     fault: Option<OpenFault>,
     faults: u64,
 }
 
-impl FileOpener {
-    /// One that makes the files that aren't there, or one that doesn't open them.
-    pub fn new(rt: HostRuntime, makes: bool) -> FileOpener
+impl<S: Start> FileOpener<S> {
+    /// One that makes the file if it isn't there, or one that doesn't open it then.
+    pub fn new(rt: HostRuntime, makes: bool, start: S) -> FileOpener<S>
         ensures { result.faults ≡ 0 }
     {
         FileOpener {
             rt,
             makes,
+            start: Some(start),
             log: None,
             fault: None,
             faults: 0,
         }
     }
 
-    /// The name of the log that the last opening made beside a file that was there and had none,
-    /// where the file was opened.
+    /// The name of the log that the opening made beside a file that was there and had none, where
+    /// the file was opened.
     pub fn new_log(&self) -> Option<&Txt> {
         self.log.as_ref()
     }
@@ -82,35 +86,47 @@ impl FileOpener {
     pub fn fault(&self) -> Option<OpenFault> {
         self.fault
     }
+
+    fn fail(&mut self, fault: OpenFault) -> AttachFault
+        ensures later { self.old.faults ≤ self.new.faults }
+        ensures rose { Rose self.old.faults self.new.faults }
+        ensures failed { result ≡ AttachFault.Failed }
+    {
+        self.fault = Some(fault);
+        self.faults = self.faults.saturating_add(1);
+        AttachFault::Failed
+    }
 }
 
-impl Opener for FileOpener {
-    type Store = FileStore<File>;
+impl<S: Start> Opener for FileOpener<S> {
+    type Store = FileStore<FileFrom<S>>;
 
     ghost faults = { λ o. o.faults };
 
-    ghost gives = { λ name c. (HasCleanDisk (file_state c) → IsOpened c) × IsNew c };
+    ghost gives = { λ name c. IsFileGiven (image_at S.Start) (file_state c) × IsNew c };
 
-    /// `Failed` without a name. That it is the file of the name is the host's to say: no clause
-    /// says it.
+    /// `Failed` without a name, and where it opened a file before. That it is the file of the name
+    /// is the host's to say: no clause says it.
     fn open(
         &mut self,
         _: Global,
         name: Option<&Txt>,
-    ) -> Result<Connection<FileStore<File>>, AttachFault>
+    ) -> Result<Connection<FileStore<FileFrom<S>>>, AttachFault>
         ensures opens { OpensFile self.old.faults self.new.faults result }
-        ensures gives { IfOk result (λ c. (HasCleanDisk (file_state c) → IsOpened c) × IsNew c) }
+        ensures gives { IfOk result (λ c. IsFileGiven (image_at S.Start) (file_state c)
+            × IsNew c) }
         ensures outside { IfOk result (λ c. c.in_transaction ≡ false) }
         ensures unnamed { option_copied name.entry ≡ None → IsErr result }
         ensures memory { option_copied name.entry ≡ Some (codes ":memory:") → IsErr result }
     {
         if !self.makes && !is_there(&self.rt, name) {
-            self.fault = Some(OpenFault::Missing);
-            self.faults = self.faults.saturating_add(1);
-            return Err(AttachFault::Failed);
+            return Err(self.fail(OpenFault::Missing));
         }
+        let Some(start) = self.start.take() else {
+            return Err(self.fail(OpenFault::Other));
+        };
         let log = log_to_come(&self.rt, name);
-        match open_file(&self.rt, name, log.as_ref()) {
+        match open_file(&self.rt, name, log.as_ref(), start) {
             Ok(conn) => {
                 self.log = log;
                 Ok(conn)
@@ -146,19 +162,20 @@ fn fault_of(error: Error) -> OpenFault {
 
 // A log that is made for a file that is refused is removed while the files are locked: so it is
 // this opening's own. One that something was written to stays, for the next opening.
-fn open_file(
+fn open_file<S: Start>(
     rt: &HostRuntime,
     name: Option<&Txt>,
     log: Option<&Txt>,
-) -> Result<Connection<FileStore<File>>, Error>
-    ensures gives { IfOk result (λ c. (HasCleanDisk (file_state c) → IsOpened c) × IsNew c) }
+    start: S,
+) -> Result<Connection<FileStore<FileFrom<S>>>, Error>
+    ensures gives { IfOk result (λ c. IsFileGiven (image_at S.Start) (file_state c) × IsNew c) }
     ensures unnamed { option_copied name.entry ≡ None → IsErr result }
     ensures memory { option_copied name.entry ≡ Some (codes ":memory:") → IsErr result }
 {
     let Some(name) = name else {
         return Err(Error::SqliteFailure(ErrorCode::CannotOpen));
     };
-    match Connection::open_from(rt, name.as_str(), false, Unknown) {
+    match Connection::open_from(rt, name.as_str(), false, start) {
         Ok(conn) => Ok(conn),
         Err((error, left)) => {
             if left.is_some() {

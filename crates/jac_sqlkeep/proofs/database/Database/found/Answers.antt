@@ -18,7 +18,7 @@ returns-in-Ok g c =
     let law = g.met.S.Store.shut_if_dirty c.make_tables.new.conn.store in
     let it = founded_told g.S.Store c.args.schema.now (length c.args.shape.kinds) c.args.conn c.make_tables.new.conn tt c.requires.none law
     (λ clean. c.in-Ok.ensures.ends clean c.requires.outside) c.in-Ok.ensures.transacts in
-    begins_new g.S.Store c.args.shape.kinds c.args.conn c.make_tables.new.conn c.args.schema.now c.args.shape.nested (lasts_of (state g.S.Store c.args.conn) (state g.S.Store c.make_tables.new.conn) c.in-Ok.ensures.transacts.crash)
+    begins_new g.S.Store c.args.shape.kinds c.args.conn c.make_tables.new.conn c.args.schema.now c.args.shape.nested law (lasts_of (state g.S.Store c.args.conn) (state g.S.Store c.make_tables.new.conn) c.in-Ok.ensures.transacts.crash)
     c.requires.none (λ opened. (c.in-Ok.ensures.ends (clean_if_open (state g.S.Store c.make_tables.new.conn) law opened) c.requires.outside).was_open opened) it.1 it.2
 
 pub returns-in-Err : goal.returns-in-Err

@@ -7,7 +7,7 @@ invariant_of-result g c = (c.in-Ok-None.ensures.mode c.requires.outside, λ know
 
 pub returns-in-Ok-None : goal.returns-in-Ok-None
 returns-in-Ok-None g c =
-    begins_again g.S.Store c.args.shape.kinds c.args.conn c.read_whole.new.conn c.args.schema.now c.args.shape.nested c.in-Ok-None.ensures.lasts c.requires.form c.in-Ok-None.ensures.left (rw c.in-Ok-None.field-0-is at c.in-Ok-None.ensures.read)
+    begins_again g.S.Store c.args.shape.kinds c.args.conn c.read_whole.new.conn c.args.schema.now c.args.shape.nested (g.met.S.Store.shut_if_dirty c.read_whole.new.conn.store) c.in-Ok-None.ensures.lasts c.requires.form c.in-Ok-None.ensures.left (rw c.in-Ok-None.field-0-is at c.in-Ok-None.ensures.read)
 
 pub returns-in-Ok-Some : goal.returns-in-Ok-Some
 returns-in-Ok-Some g c =
