@@ -1,6 +1,7 @@
 -- what is seen of a store that may be opened again
-use Rattle.std.specs.Prelude.{◌≡◌, ◌≤◌, ◌⊎◌, ⊤, ℕ, true, false, List, [], Option, Some, None}
+use Rattle.std.specs.Prelude.{◌≡◌, ◌≤◌, ◌⊎◌, ⊤, ℕ, Bool, true, false, List, [], Option, Some, None}
 use Rattle.jac_rows.specs.Good.{ModelShape}
+use Rattle.jac_rows.specs.declared.state.State.{State}
 use Rattle.jac_io.specs.Faults.{Rose}
 use Rattle.jac_keep.specs.KeeperSeen.{KeeperSeen, Store}
 use Rattle.jac_keep.specs.Schema.{IsSchema}
@@ -31,14 +32,32 @@ seen_untold u = record {
   store = known_store u.known;
 }
 
--- a keeper that nobody attached
-abbrev pub unopened_keeper : KeeperSeen
-unopened_keeper = record {
-  tells = false;
+-- what is supposed of a store before it is opened: whether anything is, the schema of what is
+-- stored, where there is one, and its state
+pub record Supposed : Type 0 where
+  pub known : Bool
+  pub schema : Option (List ℕ)
+  pub state : State
+
+abbrev pub nothing_supposed : Supposed
+nothing_supposed = record {
+  known = false;
+  schema = None;
   state = record { tables = []; number = 0 };
-  faults = 0;
-  store = record { called = false; attached = false; schema = None; name = None };
 }
+
+-- a keeper that nobody attached, over a store of which this is supposed
+abbrev pub waiting_keeper : Supposed → KeeperSeen
+waiting_keeper s = record {
+  tells = s.known;
+  state = s.state;
+  faults = 0;
+  store = record { called = false; attached = false; schema = s.schema; name = None };
+}
+
+-- one of which nothing is supposed
+abbrev pub unopened_keeper : KeeperSeen
+unopened_keeper = waiting_keeper nothing_supposed
 
 -- the vault that was attached first, and the keeper over the store that was opened again
 pub record ReopenSeen (V : Type 0) : Type 0 where

@@ -6,7 +6,7 @@ ghost use Rattle.jac_keep.specs.KeeperSeen.{IsLeft};
 ghost use Rattle.jac_keep.specs.ChangedState.{changed_state};
 ghost use Rattle.jac_keep.specs.Reshaping.{widened_state, Reshapes};
 ghost use Rattle.jac_keep.specs.Schema.{IsSchema, IsFit};
-ghost use Rattle.jac_reopen.specs.Reopened.{seen_reopening, unopened_keeper, known_store, HasShapes, GivesUpAtFault};
+ghost use Rattle.jac_reopen.specs.Reopened.{seen_reopening, waiting_keeper, known_store, HasShapes, GivesUpAtFault};
 ghost use Rattle.jac_reopen.specs.GoesOn.{gives_up_at_fault};
 
 use crate::{KnownStore, ReopenedKeeper, VaultMaker};
@@ -55,7 +55,7 @@ impl<M: VaultMaker> ReopeningKeeper<M> {
         schema: &Txt,
     ) -> (ReopeningKeeper<M>, Result<(), AttachFault>)
         requires schema { (shapes : List ModelShape) × IsSchema schema.now shapes }
-        ensures attaches { Attaches unopened_keeper
+        ensures attaches { Attaches (waiting_keeper M.supposes)
             (seen_reopening M.Vault.Keeper.seen result.0)
             (option_copied name.entry) schema.now result.1 }
         ensures begins { OnOk result.1 (IsSomeAnd result.0.first (M.begins schema.now)) }

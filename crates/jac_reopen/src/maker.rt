@@ -3,7 +3,7 @@ ghost use Rattle.std.specs.Option.{option_copied};
 ghost use Rattle.jac_rows.specs.Good.{ModelShape};
 ghost use Rattle.jac_keep.specs.Attaching.{Attaches};
 ghost use Rattle.jac_keep.specs.Schema.{IsSchema};
-ghost use Rattle.jac_reopen.specs.Reopened.{unopened_keeper, HasShapes};
+ghost use Rattle.jac_reopen.specs.Reopened.{Supposed, waiting_keeper, HasShapes};
 
 use crate::KnownStore;
 use jac_keep::{AttachFault, Stop, Vault};
@@ -13,6 +13,10 @@ use std::alloc::Global;
 /// What opens vaults over one store.
 pub trait VaultMaker: Drop {
     type Vault: Vault + Drop;
+
+    /// What is supposed of the store before it is opened. A vault that was attached is compared
+    /// with it.
+    ghost supposes: { Supposed };
 
     /// What is known of a vault that was attached with this schema.
     ghost begins: { List ℕ → Self.Vault → Type 0 };
@@ -25,7 +29,7 @@ pub trait VaultMaker: Drop {
         schema: &Txt,
     ) -> (Self::Vault, Result<(), AttachFault>)
         requires schema { (shapes : List ModelShape) × IsSchema schema.now shapes }
-        ensures attaches { Attaches unopened_keeper (Self.Vault.Keeper.seen result.0)
+        ensures attaches { Attaches (waiting_keeper supposes) (Self.Vault.Keeper.seen result.0)
             (option_copied name.entry) schema.now result.1 }
         ensures begins { OnOk result.1 (begins schema.now result.0) };
 
