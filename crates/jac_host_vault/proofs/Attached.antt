@@ -1,11 +1,14 @@
 -- A vault that is attached by one of its keepers, and that is called in memory.
-use Rattle.std.proofs.Common.{◌≡◌, ◌||◌, refl, ℕ, ◌≤◌, Bool, true, false, true≢false, List, Option, Some, None, Result, Ok, Err, OnOk, OnErr, IsErrOf, IsTrue, IsSomeAnd, sym, ap, ◌∙◌, subst, arith}
-use Rattle.jac_io.specs.Faults.{Rose, one_more_fault}
+use Rattle.std.proofs.Common.{◌≡◌, refl, ℕ, length, ◌≤◌, Bool, true, false, true≢false, List, Option, Some, None, Result, Ok, Err, OnOk, OnErr, IsErrOf, IsTrue, IsSomeAnd, sym, ap, ◌∙◌, subst, arith}
+use Rattle.jac_io.specs.Faults.{Rose}
+use Rattle.jac_rows.specs.Good.{ModelShape, IsSound}
 use Rattle.jac_keep.specs.Cause.{HasCause}
 use Rattle.jac_keep.specs.KeeperSeen.{KeeperSeen, Store, Keeps, Looks, Reads}
 use Rattle.jac_keep.specs.KeeperState.{KeeperState, seen_keeper}
-use Rattle.jac_keep.specs.Attaching.{Attaches, OpensStore, IsRefused}
-use Rattle.jac_keep.specs.Reshaping.{Reshapes, IsReshaped, IsUnshaped}
+use Rattle.jac_keep.specs.Attaching.{Attaches}
+use Rattle.jac_keep.specs.Reshaping.{Reshapes, widened_state}
+use Rattle.jac_keep.specs.ChangedState.{changed_state}
+use Rattle.jac_keep.specs.Schema.{IsFit}
 use Rattle.jac_keep.specs.declared.alteration.Change.{Change}
 use Rattle.jac_keep.specs.declared.stop.Stop.{Stop}
 use Rattle.jac_keep.specs.declared.vault.AttachFault.{AttachFault}
@@ -13,9 +16,10 @@ use Rattle.jac_keep.specs.declared.vault.AttachFault.TheVariants.{Failed}
 use Rattle.sqlite_trees.specs.declared.store.Store.{Ghosts}
 use Rattle.sqlite.specs.Held.{Held}
 use Rattle.jac_sqlkeep.specs.Based.{Based}
-use Rattle.jac_sqlkeep.specs.Kept.{Kept, seen_kept, untouched_keeper, BeginsGiven}
-use Rattle.jac_reopen.specs.Reopened.{ReopenSeen, seen_reopening, unopened_keeper}
-use Rattle.jac_host_vault.specs.HostSeen.{HostSeen, IsFileOf, IsStorePlaced, seen_memory, seen_one, seen_host, faults_with, store_with, IsHost}
+use Rattle.jac_sqlkeep.specs.Kept.{Kept, BeginsGiven}
+use Rattle.jac_reopen.specs.Reopened.{ReopenSeen, Supposed, seen_reopening, waiting_keeper}
+use Rattle.jac_host_vault.specs.Content.{IsFileOf}
+use Rattle.jac_host_vault.specs.HostSeen.{HostSeen, IsStorePlaced, seen_memory, seen_unfiled, seen_waiting, seen_one, seen_host, faults_with, store_with, IsHost}
 
 -- ---- memory is called
 
@@ -27,219 +31,222 @@ rose_with : (m : Bool) (a b : ℕ) → Rose a b → Rose (faults_with m a) (faul
 rose_with true a b rose = omega (arith, rose)
 rose_with false a b rose = rose
 
-tells_before : (alone : Bool) (old new : KeeperState) → new.store ≡ old.store → IsTrue (alone || new.store.attached) → IsTrue (alone || old.store.attached)
-tells_before alone old new same told = sym (ap (λ (s : Store). alone || s.attached) same) ∙ told
+was_attached : (misnamed : Bool) (s : Store) → IsTrue (store_with misnamed s).attached → IsTrue s.attached
+was_attached true s is = is
+was_attached false s is = is
 
-module _ (alone misnamed : Bool) (old new : KeeperState) where
-  pub memory_reads : {T : Type 0} (result : Result T Stop) → Reads (seen_keeper old) (seen_keeper new) result → Reads (seen_memory alone misnamed old) (seen_memory alone misnamed new) result
-  memory_reads result reads = record {
-    left = record {
-      later = later_with misnamed old.faults new.faults reads.left.later;
-      told = tells_before alone old new reads.left.same_store;
-      same_state = λ told. reads.left.same_state refl;
-      same_store = ap (store_with misnamed) reads.left.same_store;
-    };
-    good = λ told. reads.good refl;
-    rose = λ is. rose_with misnamed old.faults new.faults (reads.rose is);
-  }
+not_waiting : {A : Type 0} (s : Supposed) (misnamed : Bool) → IsTrue (seen_waiting s misnamed).store.attached → A
+not_waiting s true is = absurd (true≢false (sym is))
+not_waiting s false is = absurd (true≢false (sym is))
 
-  pub memory_looks : {T : Type 0} (result : Result T Stop) → Looks (seen_keeper old) (seen_keeper new) result → Looks (seen_memory alone misnamed old) (seen_memory alone misnamed new) result
-  memory_looks result looks = record {
-    left = record {
-      later = later_with misnamed old.faults new.faults looks.left.later;
-      told = tells_before alone old new looks.left.same_store;
-      same_state = λ told. looks.left.same_state refl;
-      same_store = ap (store_with misnamed) looks.left.same_store;
-    };
-    rose = λ is. rose_with misnamed old.faults new.faults (looks.rose is);
-  }
+-- what is attached where there is no file is memory
+pub is_attached : (s : Supposed) (alone misnamed : Bool) (m : KeeperState) → IsTrue (seen_unfiled s alone misnamed m).store.attached → IsTrue m.store.attached
+is_attached s true misnamed m is = was_attached misnamed m.store is
+is_attached s false misnamed m is = not_waiting s misnamed is
 
+-- and what a call asks of the state that is told, it asks of that of memory
+pub sound_in_memory : (s : Supposed) (alone misnamed : Bool) (m : KeeperState) (change : Change) → IsTrue (seen_unfiled s alone misnamed m).store.attached
+    → (IsTrue (seen_unfiled s alone misnamed m).tells → IsSound (changed_state change (seen_unfiled s alone misnamed m).state)) → IsSound (changed_state change m.state)
+sound_in_memory s true misnamed m change is sound = sound refl
+sound_in_memory s false misnamed m change is sound = not_waiting s misnamed is
+
+pub fit_in_memory : (s : Supposed) (alone misnamed : Bool) (m : KeeperState) (change : Change) (shapes : List ModelShape) → IsTrue (seen_unfiled s alone misnamed m).store.attached
+    → (IsTrue (seen_unfiled s alone misnamed m).tells → IsFit shapes (widened_state (length shapes) (changed_state change (seen_unfiled s alone misnamed m).state))) → IsFit shapes (widened_state (length shapes) (changed_state change m.state))
+fit_in_memory s true misnamed m change shapes is fit = fit refl
+fit_in_memory s false misnamed m change shapes is fit = not_waiting s misnamed is
+
+module _ (misnamed : Bool) (old new : KeeperState) where
   cause_with : {T : Type 0} (result : Result T Stop) → HasCause old.faults new.faults result → HasCause (faults_with misnamed old.faults) (faults_with misnamed new.faults) result
   cause_with result cause = record { later = later_with misnamed old.faults new.faults cause.later; rose = λ is. rose_with misnamed old.faults new.faults (cause.rose is) }
 
-  pub memory_keeps : {T : Type 0} (result : Result T Stop) → Keeps (seen_keeper old) (seen_keeper new) result → Keeps (seen_memory alone misnamed old) (seen_memory alone misnamed new) result
-  memory_keeps result keeps = record {
-    cause = cause_with result keeps.cause;
-    told = tells_before alone old new keeps.same_store;
-    good = λ told. keeps.good refl;
-    same_store = ap (store_with misnamed) keeps.same_store;
-  }
+module _ (s : Supposed) (alone misnamed : Bool) (old new : KeeperState) where
+  pub memory_reads : {T : Type 0} (result : Result T Stop) → IsTrue (seen_unfiled s alone misnamed old).store.attached → Reads (seen_keeper old) (seen_keeper new) result
+      → Reads (seen_unfiled s alone misnamed old) (seen_unfiled s alone misnamed new) result
+  memory_reads result is reads = by alone is
+    where
+      by : (alone : Bool) → IsTrue (seen_unfiled s alone misnamed old).store.attached → Reads (seen_unfiled s alone misnamed old) (seen_unfiled s alone misnamed new) result
+      by true is = record {
+        left = record {
+          later = later_with misnamed old.faults new.faults reads.left.later;
+          told = λ told. refl;
+          same_state = λ told. reads.left.same_state refl;
+          same_store = ap (store_with misnamed) reads.left.same_store;
+        };
+        good = λ told. reads.good refl;
+        rose = λ is. rose_with misnamed old.faults new.faults (reads.rose is);
+      }
+      by false is = not_waiting s misnamed is
+
+  pub memory_looks : {T : Type 0} (result : Result T Stop) → IsTrue (seen_unfiled s alone misnamed old).store.attached → Looks (seen_keeper old) (seen_keeper new) result
+      → Looks (seen_unfiled s alone misnamed old) (seen_unfiled s alone misnamed new) result
+  memory_looks result is looks = by alone is
+    where
+      by : (alone : Bool) → IsTrue (seen_unfiled s alone misnamed old).store.attached → Looks (seen_unfiled s alone misnamed old) (seen_unfiled s alone misnamed new) result
+      by true is = record {
+        left = record {
+          later = later_with misnamed old.faults new.faults looks.left.later;
+          told = λ told. refl;
+          same_state = λ told. looks.left.same_state refl;
+          same_store = ap (store_with misnamed) looks.left.same_store;
+        };
+        rose = λ is. rose_with misnamed old.faults new.faults (looks.rose is);
+      }
+      by false is = not_waiting s misnamed is
+
+  pub memory_keeps : {T : Type 0} (result : Result T Stop) → IsTrue (seen_unfiled s alone misnamed old).store.attached → Keeps (seen_keeper old) (seen_keeper new) result
+      → Keeps (seen_unfiled s alone misnamed old) (seen_unfiled s alone misnamed new) result
+  memory_keeps result is keeps = by alone is
+    where
+      by : (alone : Bool) → IsTrue (seen_unfiled s alone misnamed old).store.attached → Keeps (seen_unfiled s alone misnamed old) (seen_unfiled s alone misnamed new) result
+      by true is = record {
+        cause = cause_with misnamed old new result keeps.cause;
+        told = λ told. refl;
+        good = λ told. keeps.good refl;
+        same_store = ap (store_with misnamed) keeps.same_store;
+      }
+      by false is = not_waiting s misnamed is
 
 schema_with : (m : Bool) (s : Store) (schema : Option (List ℕ)) → store_with m (record s { schema = schema }) ≡ record (store_with m s) { schema = schema }
 schema_with true s schema = refl
 schema_with false s schema = refl
 
-tells_attached : (alone attached : Bool) → IsTrue attached → IsTrue (alone || attached)
-tells_attached true attached is = refl
-tells_attached false attached is = is
-
-was_attached : (misnamed : Bool) (s : Store) → IsTrue (store_with misnamed s).attached → IsTrue s.attached
-was_attached true s is = is
-was_attached false s is = is
-
-pub memory_reshapes : (alone misnamed : Bool) (old new : KeeperState) (change : Change) (schema : List ℕ) (result : Result (Unit {0}) Stop) → IsTrue (seen_memory alone misnamed old).store.attached → Reshapes (seen_keeper old) (seen_keeper new) change schema result
-    → Reshapes (seen_memory alone misnamed old) (seen_memory alone misnamed new) change schema result
-memory_reshapes alone misnamed old new change schema (Ok done) attached reshapes = record {
-  cause = cause_with alone misnamed old new (Ok done) reshapes.cause;
-  told = λ told. tells_attached alone old.store.attached (was_attached misnamed old.store attached);
+reshapes_alone : (misnamed : Bool) (old new : KeeperState) (change : Change) (schema : List ℕ) (result : Result (Unit {0}) Stop) → Reshapes (seen_keeper old) (seen_keeper new) change schema result
+    → Reshapes (seen_memory misnamed old) (seen_memory misnamed new) change schema result
+reshapes_alone misnamed old new change schema (Ok done) reshapes = record {
+  cause = cause_with misnamed old new (Ok done) reshapes.cause;
+  told = λ told. refl;
   ok = record { store = ap (store_with misnamed) reshapes.ok.store ∙ schema_with misnamed old.store (Some schema); state = λ told. reshapes.ok.state refl };
   err = tt;
 }
-memory_reshapes alone misnamed old new change schema (Err e) attached reshapes = record {
-  cause = cause_with alone misnamed old new (Err e) reshapes.cause;
-  told = λ told. tells_attached alone old.store.attached (was_attached misnamed old.store attached);
+reshapes_alone misnamed old new change schema (Err e) reshapes = record {
+  cause = cause_with misnamed old new (Err e) reshapes.cause;
+  told = λ told. refl;
   ok = tt;
   err = record { same_store = ap (store_with misnamed) reshapes.err.same_store; same_state = λ told. reshapes.err.same_state refl };
 }
 
--- ---- before anything was attached, memory is what is called, and nothing was asked for in vain
+pub memory_reshapes : (s : Supposed) (alone misnamed : Bool) (old new : KeeperState) (change : Change) (schema : List ℕ) (result : Result (Unit {0}) Stop) → IsTrue (seen_unfiled s alone misnamed old).store.attached
+    → Reshapes (seen_keeper old) (seen_keeper new) change schema result → Reshapes (seen_unfiled s alone misnamed old) (seen_unfiled s alone misnamed new) change schema result
+memory_reshapes s true misnamed old new change schema result is reshapes = reshapes_alone misnamed old new change schema result reshapes
+memory_reshapes s false misnamed old new change schema result is reshapes = not_waiting s misnamed is
 
-record IsFirst (h : HostSeen) : Type 0 where
-  pub uncalled : h.memory.store.called ≡ false
-  pub named : h.misnamed ≡ false
-  pub unfiled : h.file ≡ None
+-- ---- before anything was attached nothing was asked for in vain
 
-first_in : (alone misnamed : Bool) (memory : KeeperState) (file : Option (ReopenSeen Kept)) → IsHost (record { memory = memory; file = file; alone = alone; misnamed = misnamed }) → (seen_one alone misnamed memory file).store.called ≡ false
-    → IsFirst (record { memory = memory; file = file; alone = alone; misnamed = misnamed })
-first_in alone misnamed memory (Some f) host first = absurd (let called = host.called in cc)
-first_in alone true memory None host first = absurd (true≢false first)
-first_in alone false memory None host first = record { uncalled = first; named = refl; unfiled = refl }
+module _ {V : Type 0} (s : Supposed) (seen : V → KeeperSeen) where
+  record IsFirst (h : HostSeen V) : Type 0 where
+    pub uncalled : IsTrue h.alone → h.memory.store.called ≡ false
+    pub named : h.misnamed ≡ false
+    pub unfiled : h.file ≡ None
 
-pub memory_first : (h : HostSeen) → IsHost h → (seen_host h).store.called ≡ false → h.memory.store.called ≡ false
-memory_first h host first = (first_in h.alone h.misnamed h.memory h.file host first).uncalled
+  first_unfiled : (alone misnamed : Bool) (memory : KeeperState) → (seen_unfiled s alone misnamed memory).store.called ≡ false → (IsTrue alone → memory.store.called ≡ false) × (misnamed ≡ false)
+  first_unfiled true true memory first = absurd (true≢false first)
+  first_unfiled true false memory first = (λ alone. first, refl)
+  first_unfiled false true memory first = absurd (true≢false first)
+  first_unfiled false false memory first = (λ alone. absurd (true≢false (sym alone)), refl)
 
--- a vault that told nothing before it was attached
-module _ (old : KeeperSeen) (untold : old.tells ≡ false) where
-  never : {A : Type 0} → IsTrue old.tells → A
-  never told = absurd (true≢false (sym told ∙ untold))
+  first_in : (alone misnamed : Bool) (memory : KeeperState) (file : Option (ReopenSeen V)) → IsHost seen (record { memory = memory; file = file; alone = alone; misnamed = misnamed })
+      → (seen_one s seen alone misnamed memory file).store.called ≡ false → IsFirst (record { memory = memory; file = file; alone = alone; misnamed = misnamed })
+  first_in alone misnamed memory (Some f) host first = absurd (true≢false (sym host.called ∙ first))
+  first_in alone misnamed memory None host first =
+      let it = first_unfiled alone misnamed memory first in
+      record { uncalled = it.0; named = it.1; unfiled = refl }
 
-  opens_now : (before new : KeeperSeen) (name : Option (List ℕ)) (schema : List ℕ) (result : Result (Unit {0}) AttachFault) → OnOk result (OpensStore before new name schema) → OnOk result (OpensStore old new name schema)
-  opens_now before new name schema (Err e) opens = tt
-  opens_now before new name schema (Ok done) opens = record {
-    attached = opens.attached;
-    named = opens.named;
-    stored = opens.stored;
-    fit = opens.fit;
-    known = λ told then. never then;
-    kept = λ told then. never then;
-    made = λ told then. never then;
+  pub memory_first : (h : HostSeen V) → IsHost seen h → (seen_host s seen h).store.called ≡ false → h.alone ≡ true → h.memory.store.called ≡ false
+  memory_first h host first alone = (first_in h.alone h.misnamed h.memory h.file host first).uncalled alone
+
+  -- what is seen of a vault that was not called
+  seen_first_of : (h : HostSeen V) (alone : Bool) → h.alone ≡ alone → IsHost seen h → (seen_host s seen h).store.called ≡ false → seen_unfiled s alone false h.memory ≡ seen_host s seen h
+  seen_first_of h alone is host first =
+      let it = first_in h.alone h.misnamed h.memory h.file host first in
+      ap (λ (a : Bool). seen_unfiled s a false h.memory) (sym is)
+      ∙ (ap (λ (m : Bool). seen_unfiled s h.alone m h.memory) (sym it.named)
+      ∙ ap (λ (f : Option (ReopenSeen V)). seen_one s seen h.alone h.misnamed h.memory f) (sym it.unfiled))
+
+  -- ---- a file is attached
+
+  pub file_attached : (h : HostSeen V) (new : KeeperSeen) (name : Option (List ℕ)) (schema : List ℕ) (result : Result (Unit {0}) AttachFault)
+      → IsHost seen h → (seen_host s seen h).store.called ≡ false → h.alone ≡ false
+      → Attaches (waiting_keeper s) new name schema result → Attaches (seen_host s seen h) new name schema result
+  file_attached h new name schema result host first some attaches =
+      subst (λ (k : KeeperSeen). Attaches k new name schema result) (seen_first_of h false some host first) attaches
+
+  -- ---- memory is attached
+
+  -- what is seen of the vault then
+  seen_then : (h : HostSeen V) (new : KeeperState) → h.alone ≡ true → IsHost seen h → (seen_host s seen h).store.called ≡ false → seen_memory false new ≡ seen_host s seen (record h { memory = new })
+  seen_then h new alone host first =
+      let it = first_in h.alone h.misnamed h.memory h.file host first in
+      ap (λ (a : Bool). seen_unfiled s a false new) (sym alone)
+      ∙ (ap (λ (m : Bool). seen_unfiled s h.alone m new) (sym it.named)
+      ∙ ap (λ (f : Option (ReopenSeen V)). seen_one s seen h.alone h.misnamed new f) (sym it.unfiled))
+
+  pub memory_attached : (h : HostSeen V) (new : KeeperState) (name : Option (List ℕ)) (schema : List ℕ) (result : Result (Unit {0}) AttachFault)
+      → IsHost seen h → (seen_host s seen h).store.called ≡ false → h.alone ≡ true
+      → Attaches (seen_keeper h.memory) (seen_keeper new) name schema result → Attaches (seen_host s seen h) (seen_host s seen (record h { memory = new })) name schema result
+  memory_attached h new name schema result host first alone attaches =
+      subst (λ (k : KeeperSeen). Attaches k (seen_host s seen (record h { memory = new })) name schema result) (seen_first_of h true alone host first)
+      (subst (λ (k : KeeperSeen). Attaches (seen_memory false h.memory) k name schema result) (seen_then h new alone host first) attaches)
+
+  pub host_of_memory : (h : HostSeen V) (new : KeeperState) → IsHost seen h → IsTrue new.store.called → IsHost seen (record h { memory = new })
+  host_of_memory h new host called = record { called = host.called; detached = λ un. absurd (true≢false (sym called ∙ un)); unused = λ un. absurd (true≢false (sym called ∙ un)); unfiled = host.unfiled }
+
+  -- ---- it is refused what it doesn't have
+
+  refuses : (memory : KeeperState) (name : Option (List ℕ)) (schema : List ℕ) (alone : Bool) → (IsTrue alone → memory.faults ≡ 0) → Attaches (seen_unfiled s alone false memory) (seen_unfiled s alone true memory) name schema (Err Failed)
+  refuses memory name schema true unused =
+      let none = unused refl in
+      record {
+        later = omega (arith, none);
+        called = refl;
+        ok = tt;
+        err = λ told. record { told = refl; same_state = refl; same_schema = refl };
+        unattached = refl;
+        rose = λ failed. omega (arith, none);
+        other = λ stored is. absurd cc;
+        known_other = λ stored is. absurd cc;
+      }
+  refuses memory name schema false unused = record {
+    later = omega arith;
+    called = refl;
+    ok = tt;
+    err = λ told. record { told = told; same_state = refl; same_schema = refl };
+    unattached = refl;
+    rose = λ failed. omega arith;
+    other = λ stored is. absurd cc;
+    known_other = λ stored is. absurd cc;
   }
 
-untold_refused : (before old new : KeeperSeen) (result : Result (Unit {0}) AttachFault) → before.tells ≡ false → OnErr result (IsRefused before new) → OnErr result (IsRefused old new)
-untold_refused before old new (Ok done) untold refused = tt
-untold_refused before old new (Err e) untold refused = absurd (true≢false (sym refused.told ∙ untold))
+  -- what is seen of the vault then
+  seen_misnamed : (h : HostSeen V) → IsHost seen h → (seen_host s seen h).store.called ≡ false → seen_unfiled s h.alone true h.memory ≡ seen_host s seen (record h { misnamed = true })
+  seen_misnamed h host first =
+      let it = first_in h.alone h.misnamed h.memory h.file host first in
+      ap (λ (f : Option (ReopenSeen V)). seen_one s seen h.alone true h.memory f) (sym it.unfiled)
 
-still_unattached : (new : KeeperSeen) (before old : Bool) (result : Result (Unit {0}) AttachFault) → before ≡ old
-    → OnErr result (new.store.attached ≡ before) → OnErr result (new.store.attached ≡ old)
-still_unattached new before old (Ok done) same is = tt
-still_unattached new before old (Err e) same is = is ∙ same
+  pub name_refused : (h : HostSeen V) (name : Option (List ℕ)) (schema : List ℕ) → IsHost seen h → (seen_host s seen h).store.called ≡ false
+      → Attaches (seen_host s seen h) (seen_host s seen (record h { misnamed = true })) name schema (Err Failed)
+  name_refused h name schema host first =
+      let it = first_in h.alone h.misnamed h.memory h.file host first in
+      subst (λ (k : KeeperSeen). Attaches k (seen_host s seen (record h { misnamed = true })) name schema (Err Failed)) (seen_first_of h h.alone refl host first)
+      (subst (λ (k : KeeperSeen). Attaches (seen_unfiled s h.alone false h.memory) k name schema (Err Failed)) (seen_misnamed h host first) (refuses h.memory name schema h.alone (λ alone. host.unused (it.uncalled alone))))
 
--- attaching says the same of two keepers that tell nothing before it
-attaches_from : (before old new : KeeperSeen) (name : Option (List ℕ)) (schema : List ℕ) (result : Result (Unit {0}) AttachFault)
-    → before.tells ≡ false → old.tells ≡ false → before.faults ≡ old.faults → before.store.attached ≡ old.store.attached
-    → Attaches before new name schema result → Attaches old new name schema result
-attaches_from before old new name schema result untold untold_old faults attached attaches = record {
-  later = subst (λ (n : ℕ). n ≤ new.faults) faults attaches.later;
-  called = attaches.called;
-  ok = opens_now old untold_old before new name schema result attaches.ok;
-  err = λ told. untold_refused before old new result untold (attaches.err told);
-  unattached = still_unattached new before.store.attached old.store.attached result attached attaches.unattached;
-  rose = λ failed. subst (λ (n : ℕ). Rose n new.faults) faults (attaches.rose failed);
-  other = attaches.other;
-  known_other = attaches.known_other;
-}
+  -- ---- what is attached
 
--- a file that nobody attached is as a keeper that nobody did
-pub unopened_first : (new : KeeperSeen) (name : Option (List ℕ)) (schema : List ℕ) (result : Result (Unit {0}) AttachFault)
-    → Attaches (seen_kept (untouched_keeper 0)) new name schema result → Attaches unopened_keeper new name schema result
-unopened_first new name schema result attaches = attaches_from (seen_kept (untouched_keeper 0)) unopened_keeper new name schema result refl refl refl refl attaches
+  -- the file that was attached stands in the vault
+  pub placed_in : (Begins : List ℕ → V → Type 0) (name schema : List ℕ) (h : HostSeen V) (f : ReopenSeen V) (result : Result (Unit {0}) AttachFault) → h.file ≡ Some f → f.again ≡ None
+      → OnOk result (IsSomeAnd f.first (Begins schema)) → OnOk result (IsStorePlaced s seen Begins (Some name) schema h)
+  placed_in Begins name schema h f (Ok done) some first begins =
+      subst (λ (o : Option (ReopenSeen V)). IsSomeAnd o (λ (f : ReopenSeen V). (f.again ≡ None) × IsSomeAnd f.first (Begins schema))) (sym some) (first, begins)
+  placed_in Begins name schema h f (Err e) some first begins = tt
 
--- a file is attached in place of memory
-file_first : (memory : KeeperState) (new : KeeperSeen) (name : Option (List ℕ)) (schema : List ℕ) (result : Result (Unit {0}) AttachFault)
-    → memory.store.attached ≡ false → memory.faults ≡ 0
-    → Attaches unopened_keeper new name schema result → Attaches (seen_memory false false memory) new name schema result
-file_first memory new name schema result detached unused attaches =
-    attaches_from unopened_keeper (seen_memory false false memory) new name schema result refl detached (sym unused) (sym detached) attaches
+  -- memory that was attached tells
+  pub memory_placed : (Begins : List ℕ → V → Type 0) (h : HostSeen V) (new : KeeperState) (schema : List ℕ) (result : Result (Unit {0}) AttachFault) → IsHost seen h → (seen_host s seen h).store.called ≡ false
+      → h.alone ≡ true → OnOk result (IsStorePlaced s seen Begins None schema (record h { memory = new }))
+  memory_placed Begins h new schema (Err e) host first alone = tt
+  memory_placed Begins h new schema (Ok done) host first alone =
+      let it = first_in h.alone h.misnamed h.memory h.file host first in
+      (it.unfiled, ap (λ (k : KeeperSeen). k.tells) (sym (seen_then h new alone host first)))
 
-pub file_attached : (h : HostSeen) (new : KeeperSeen) (name : Option (List ℕ)) (schema : List ℕ) (result : Result (Unit {0}) AttachFault)
-    → IsHost h → (seen_host h).store.called ≡ false → h.alone ≡ false
-    → Attaches unopened_keeper new name schema result → Attaches (seen_host h) new name schema result
-file_attached h new name schema result host first some attaches =
-    let it = first_in h.alone h.misnamed h.memory h.file host first in
-    let same : seen_memory false false h.memory ≡ seen_host h = λ i. seen_one (sym some i) (sym it.named i) h.memory (sym it.unfiled i) in
-    subst (λ (s : KeeperSeen). Attaches s new name schema result) same
-    (file_first h.memory new name schema result (host.detached it.uncalled) (host.unused it.uncalled) attaches)
-
-untold_memory : (memory new : KeeperState) (result : Result (Unit {0}) AttachFault) → memory.store.attached ≡ false → OnErr result (new.store.attached ≡ memory.store.attached)
-    → IsTrue new.store.attached → OnErr result (IsRefused (seen_memory false false memory) (seen_memory false false new))
-untold_memory memory new (Ok done) detached same told = tt
-untold_memory memory new (Err e) detached same told = absurd (true≢false (sym told ∙ (same ∙ detached)))
-
-opens_fit : (memory new : KeeperState) (name : Option (List ℕ)) (schema : List ℕ) (result : Result (Unit {0}) AttachFault)
-    → OnOk result (OpensStore (seen_keeper memory) (seen_keeper new) name schema) → OnOk result (OpensStore (seen_keeper memory) (seen_memory false false new) name schema)
-opens_fit memory new name schema (Err e) opens = tt
-opens_fit memory new name schema (Ok done) opens = record {
-  attached = opens.attached;
-  named = opens.named;
-  stored = opens.stored;
-  fit = λ told. opens.fit refl;
-  known = λ told then. opens.known refl refl;
-  kept = λ told then. opens.kept refl refl;
-  made = λ told then. opens.made refl refl;
-}
-
--- memory is attached: where there is memory alone, what it told is what it keeps
-memory_then : (alone : Bool) (memory new : KeeperState) (name : Option (List ℕ)) (schema : List ℕ) (result : Result (Unit {0}) AttachFault) → memory.store.attached ≡ false
-    → Attaches (seen_keeper memory) (seen_keeper new) name schema result → Attaches (seen_memory alone false memory) (seen_memory alone false new) name schema result
-memory_then true memory new name schema result detached attaches = attaches
-memory_then false memory new name schema result detached attaches = record {
-  later = attaches.later;
-  called = attaches.called;
-  ok = opens_now (seen_memory false false memory) detached (seen_keeper memory) (seen_memory false false new) name schema result (opens_fit memory new name schema result attaches.ok);
-  err = untold_memory memory new result detached attaches.unattached;
-  unattached = attaches.unattached;
-  rose = attaches.rose;
-  other = attaches.other;
-  known_other = attaches.known_other;
-}
-
-pub memory_attached : (h : HostSeen) (new : KeeperState) (name : Option (List ℕ)) (schema : List ℕ) (result : Result (Unit {0}) AttachFault)
-    → IsHost h → (seen_host h).store.called ≡ false
-    → Attaches (seen_keeper h.memory) (seen_keeper new) name schema result → Attaches (seen_host h) (seen_host (record h { memory = new })) name schema result
-memory_attached h new name schema result host first attaches =
-    let it = first_in h.alone h.misnamed h.memory h.file host first in
-    let before : seen_memory h.alone false h.memory ≡ seen_host h = λ i. seen_one h.alone (sym it.named i) h.memory (sym it.unfiled i) in
-    let after : seen_memory h.alone false new ≡ seen_host (record h { memory = new }) = λ i. seen_one h.alone (sym it.named i) new (sym it.unfiled i) in
-    subst (λ (s : KeeperSeen). Attaches s (seen_host (record h { memory = new })) name schema result) before
-    (subst (λ (s : KeeperSeen). Attaches (seen_memory h.alone false h.memory) s name schema result) after
-    (memory_then h.alone h.memory new name schema result (host.detached it.uncalled) attaches))
-
-pub host_of_memory : (h : HostSeen) (new : KeeperState) → IsHost h → IsTrue new.store.called → IsHost (record h { memory = new })
-host_of_memory h new host called = record { called = host.called; detached = λ un. absurd cc; unused = λ un. absurd cc; unfiled = host.unfiled }
-
--- ---- memory alone refuses a name
-
-refuses_name : (memory : KeeperState) (name : Option (List ℕ)) (schema : List ℕ) → memory.faults ≡ 0 → Attaches (seen_memory true false memory) (seen_memory true true memory) name schema (Err Failed)
-refuses_name memory name schema unused = record {
-  later = omega (arith, unused);
-  called = refl;
-  ok = tt;
-  err = λ told. record { told = refl; same_state = refl; same_schema = refl };
-  unattached = refl;
-  rose = λ failed. omega (arith, unused);
-  other = λ stored is. absurd cc;
-  known_other = λ stored is. absurd cc;
-}
-
-pub name_refused : (h : HostSeen) (name : Option (List ℕ)) (schema : List ℕ) → IsHost h → (seen_host h).store.called ≡ false → h.alone ≡ true → Attaches (seen_host h) (seen_host (record h { misnamed = true })) name schema (Err Failed)
-name_refused h name schema host first alone =
-    let it = first_in h.alone h.misnamed h.memory h.file host first in
-    let before : seen_memory true false h.memory ≡ seen_host h = λ i. seen_one (sym alone i) (sym it.named i) h.memory (sym it.unfiled i) in
-    let after : seen_memory true true h.memory ≡ seen_host (record h { misnamed = true }) = λ i. seen_one (sym alone i) true h.memory (sym it.unfiled i) in
-    subst (λ (s : KeeperSeen). Attaches s (seen_host (record h { misnamed = true })) name schema (Err Failed)) before
-    (subst (λ (s : KeeperSeen). Attaches (seen_memory true false h.memory) s name schema (Err Failed)) after (refuses_name h.memory name schema (host.unused it.uncalled)))
-
--- ---- what is attached
+-- ---- a file that tells
 
 placed_at : {S : Type 0} (g : Ghosts S) (Gives : Held S → Type 0) (schema : List ℕ) (o : Option Based) → IsSomeAnd o (BeginsGiven g Gives schema) → IsSomeAnd o (λ (b : Based). (b.tells ≡ b.is_open) × (IsTrue b.is_open → b.schema ≡ schema))
 placed_at g Gives schema None begins = absurd begins
@@ -248,18 +255,3 @@ placed_at g Gives schema (Some b) begins = (begins.begins.tells, begins.begins.s
 pub file_placed : {S : Type 0} (g : Ghosts S) (Gives : Held S → Type 0) (schema : List ℕ) (f : Kept) (result : Result (Unit {0}) AttachFault) → OnOk result (IsSomeAnd f.database (BeginsGiven g Gives schema)) → OnOk result (IsFileOf schema f)
 file_placed g Gives schema f (Ok done) begins = placed_at g Gives schema f.database begins
 file_placed g Gives schema f (Err e) begins = tt
-
--- the file that was attached stands in the vault
-pub placed_in : (name schema : List ℕ) (h : HostSeen) (f : ReopenSeen Kept) (result : Result (Unit {0}) AttachFault) → h.file ≡ Some f → f.again ≡ None
-    → OnOk result (IsSomeAnd f.first (IsFileOf schema)) → OnOk result (IsStorePlaced (Some name) schema h)
-placed_in name schema h f (Ok done) some first begins =
-    subst (λ (o : Option (ReopenSeen Kept)). IsSomeAnd o (λ (f : ReopenSeen Kept). (f.again ≡ None) × IsSomeAnd f.first (IsFileOf schema))) (sym some) (first, begins)
-placed_in name schema h f (Err e) some first begins = tt
-
--- memory that was attached tells
-pub memory_placed : (h : HostSeen) (new : KeeperState) (schema : List ℕ) (result : Result (Unit {0}) AttachFault) → IsHost h → (seen_host h).store.called ≡ false
-    → Attaches (seen_keeper h.memory) (seen_keeper new) None schema result → OnOk result (IsStorePlaced None schema (record h { memory = new }))
-memory_placed h new schema (Err e) host first attaches = tt
-memory_placed h new schema (Ok done) host first attaches =
-    let it = first_in h.alone h.misnamed h.memory h.file host first in
-    (it.unfiled, subst (λ (o : Option (ReopenSeen Kept)). IsTrue (seen_one h.alone h.misnamed new o).tells) (sym it.unfiled) (tells_attached h.alone new.store.attached attaches.ok.attached))

@@ -1,2 +1,3 @@
 pub mod Attached
+pub mod Found
 pub mod Telling

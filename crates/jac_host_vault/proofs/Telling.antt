@@ -7,7 +7,7 @@ use Rattle.jac_sqlkeep.specs.Based.{Based}
 use Rattle.jac_sqlkeep.specs.Kept.{Kept, seen_kept, tells_of, KeeperGoesOn}
 use Rattle.jac_sqlkeep.specs.GoesOn.{keeper_goes_on}
 use Rattle.jac_keep.specs.KeeperState.{KeeperState}
-use Rattle.jac_reopen.specs.Reopened.{ReopenSeen, UntoldSeen, seen_first, seen_either, GoesAlong, GivesUpAtFault}
+use Rattle.jac_reopen.specs.Reopened.{ReopenSeen, Supposed, UntoldSeen, seen_first, seen_either, GoesAlong, GivesUpAtFault}
 use Rattle.jac_host_vault.specs.HostSeen.{HostSeen, HostGoesOn, seen_one}
 use Rattle.jac_host_vault.specs.Telling.{IsOpenFile, HasDiskFailed, first_database, file_database, TellsOrFailed}
 
@@ -33,11 +33,11 @@ module _ {S : Type 0} (g : Ghosts S) where
   first_tells (Some a) None goes opened = absurd goes
   first_tells (Some a) (Some b) goes opened = database_tells a.database b.database goes opened
 
-  module _ (alone misnamed : Bool) (memory : KeeperState) (new_alone new_misnamed : Bool) (new_memory : KeeperState) where
+  module _ (s : Supposed) (alone misnamed : Bool) (memory : KeeperState) (new_alone new_misnamed : Bool) (new_memory : KeeperState) where
     either_tells : (a b : Option (ReopenSeen Kept)) → GoesAlong (GivesUpAtFault seen_kept (keeper_goes_on g).holds) a b
         → IsSomeAnd a (λ (f : ReopenSeen Kept). (f.again ≡ None) × IsSomeAnd f.first (λ (k : Kept). IsOpen k.database))
-        → IsTrue (seen_one new_alone new_misnamed new_memory b).tells
-        ⊎ (Rose (seen_one alone misnamed memory a).faults (seen_one new_alone new_misnamed new_memory b).faults ⊎ HasDiskFailed (file_database a) (file_database b))
+        → IsTrue (seen_one s seen_kept new_alone new_misnamed new_memory b).tells
+        ⊎ (Rose (seen_one s seen_kept alone misnamed memory a).faults (seen_one s seen_kept new_alone new_misnamed new_memory b).faults ⊎ HasDiskFailed (file_database a) (file_database b))
     either_tells None b along opened = absurd opened
     either_tells (Some a) None along opened = absurd along
     either_tells (Some a) (Some b) along opened = elim (along.fault opened.0) [
@@ -48,5 +48,5 @@ module _ {S : Type 0} (g : Ghosts S) where
       | inr rose ↦ inr (inl rose)
     ]
 
-  pub file_tells : (old new : HostSeen) → HostGoesOn (keeper_goes_on g).holds old new → IsOpenFile old → TellsOrFailed old new
-  file_tells old new goes opened = either_tells old.alone old.misnamed old.memory new.alone new.misnamed new.memory old.file new.file goes.file opened
+  pub file_tells : (s : Supposed) (old new : HostSeen Kept) → HostGoesOn seen_kept (keeper_goes_on g).holds old new → IsOpenFile old → TellsOrFailed s old new
+  file_tells s old new goes opened = either_tells s old.alone old.misnamed old.memory new.alone new.misnamed new.memory old.file new.file goes.file opened

@@ -1,3 +1,4 @@
 pub mod HostSeen
 pub mod GoesOn
+pub mod Content
 pub mod Telling

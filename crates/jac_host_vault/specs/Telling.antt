@@ -2,12 +2,12 @@
 use Rattle.std.specs.Prelude.{◌≡◌, ◌⊎◌, false, Option, Some, None, IsSomeAnd, IsTrue}
 use Rattle.jac_io.specs.Faults.{Rose}
 use Rattle.jac_sqlkeep.specs.Based.{Based}
-use Rattle.jac_sqlkeep.specs.Kept.{Kept}
-use Rattle.jac_reopen.specs.Reopened.{ReopenSeen}
+use Rattle.jac_sqlkeep.specs.Kept.{Kept, seen_kept}
+use Rattle.jac_reopen.specs.Reopened.{ReopenSeen, Supposed}
 use Rattle.jac_host_vault.specs.HostSeen.{HostSeen, seen_host}
 
 -- a file was attached, its connection is open, and it tells
-abbrev pub IsOpenFile : HostSeen → Type 0
+abbrev pub IsOpenFile : HostSeen Kept → Type 0
 IsOpenFile h = IsSomeAnd h.file (λ (f : ReopenSeen Kept). (f.again ≡ None)
     × IsSomeAnd f.first (λ (k : Kept). IsSomeAnd k.database (λ (b : Based). IsTrue b.is_open
     × IsTrue b.tells)))
@@ -27,7 +27,7 @@ HasDiskFailed (Some a) None = ⊥
 HasDiskFailed (Some a) (Some b) = Rose a.faults b.faults ⊎ (b.is_clean ≡ false)
 
 -- the store tells, or it counted a fault, or its disk did
-abbrev pub TellsOrFailed : HostSeen → HostSeen → Type 0
-TellsOrFailed old new = IsTrue (seen_host new).tells
-    ⊎ (Rose (seen_host old).faults (seen_host new).faults
+abbrev pub TellsOrFailed : Supposed → HostSeen Kept → HostSeen Kept → Type 0
+TellsOrFailed s old new = IsTrue (seen_host s seen_kept new).tells
+    ⊎ (Rose (seen_host s seen_kept old).faults (seen_host s seen_kept new).faults
     ⊎ HasDiskFailed (file_database old.file) (file_database new.file))

@@ -4,26 +4,25 @@ ghost use Rattle.jac_rows.specs.Good.{ModelShape};
 ghost use Rattle.jac_keep.specs.Attaching.{Attaches};
 ghost use Rattle.jac_keep.specs.Schema.{IsSchema};
 ghost use Rattle.jac_sqlkeep.specs.Kept.{seen_kept};
-ghost use Rattle.jac_host_vault.specs.HostSeen.{IsFileOf};
+ghost use Rattle.jac_host_vault.specs.Content.{IsFileOf, IsFound};
 
+use crate::FileOpens;
 use crate::told::{tell_refusal, words_of_error};
 use jac_keep::{AttachFault, Change, Keeper, Stop, Vault};
 use jac_rows::Rows;
-use jac_sqlkeep::{FileOpener, SqlKeeper};
+use jac_sqlkeep::SqlKeeper;
 use jac_value::{Id, Txt, Value};
-use sqlite::{Connection, File, FileStore};
 use std::alloc::Global;
-use std::fs::remove_file;
 use std::marker::Model;
 
 /// A keeper in a file. It tells its state from when it is attached, as long as its connection is
 /// open: what the file holds was then read and tested. As it is dropped, the file is closed.
-pub struct FileKeeper {
+pub struct FileKeeper<O: FileOpens> {
     rt: HostRuntime,
-    keeper: SqlKeeper<FileOpener>,
+    keeper: SqlKeeper<O>,
 }
 
-impl Model for FileKeeper {
+impl<O: FileOpens> Model for FileKeeper<O> {
     ghost use Rattle.jac_sqlkeep.specs.Kept.{Kept};
 
     ghost Value = { Kept };
@@ -32,39 +31,28 @@ impl Model for FileKeeper {
 }
 
 // It is written out, so that a caller does not prove again how each part is dropped.
-impl Drop for FileKeeper {
+impl<O: FileOpens> Drop for FileKeeper<O> {
     fn drop(self) {
         let FileKeeper { rt, keeper } = self;
         let refused = !keeper.is_attached();
         let (opener, conn) = keeper.into_parts();
         if let Some(conn) = conn {
-            close(&rt, conn, if refused { opener.new_log() } else { None });
+            opener.close(&rt, conn.into_store(), refused);
         }
     }
 }
 
-// What can't be copied from the log into the file stays in the log beside it, where the next
-// opening finds it. A log that a refused opening made is copied whole and then removed, while the
-// files are still locked: so no other program has it.
-fn close(rt: &HostRuntime, conn: Connection<FileStore<File>>, log: Option<&Txt>) {
-    if let Ok(_files) = conn.close_files() {
-        if let Some(log) = log {
-            let _ = remove_file(rt, log.as_str());
-        }
-    }
-}
-
-impl FileKeeper {
+impl<O: FileOpens> FileKeeper<O> {
     ghost use Rattle.jac_sqlkeep.specs.Kept.{untouched_keeper};
 
     /// A keeper that wasn't attached yet. Where it makes no files it opens those alone that are
     /// there.
-    pub fn new(rt: HostRuntime, makes: bool) -> FileKeeper
+    pub fn new(rt: HostRuntime, makes: bool) -> FileKeeper<O>
         ensures { result ≡ untouched_keeper 0 }
     {
         FileKeeper {
             rt,
-            keeper: SqlKeeper::new(FileOpener::new(rt, makes)),
+            keeper: SqlKeeper::new(O::new(rt, makes)),
         }
     }
 
@@ -86,7 +74,12 @@ impl FileKeeper {
 
     /// Says on standard error why the file of this name wasn't attached.
     pub(crate) fn tell_refusal(&self, name: &Txt) {
-        tell_refusal(&self.rt, name, &self.keeper);
+        tell_refusal(
+            &self.rt,
+            name,
+            self.keeper.opener().fault(),
+            self.keeper.unfit(),
+        );
     }
 
     /// Why the last call failed.
@@ -98,10 +91,10 @@ impl FileKeeper {
     }
 }
 
-impl Keeper for FileKeeper {
+impl<O: FileOpens> Keeper for FileKeeper<O> {
     ghost seen = { seen_kept };
 
-    ghost goes = { ⟦<SqlKeeper<FileOpener> as Keeper>⟧.goes };
+    ghost goes = { ⟦<SqlKeeper<O> as Keeper>⟧.goes };
 
     fn number(&mut self) -> Result<u64, Stop> {
         self.keeper.number()
@@ -130,15 +123,18 @@ impl Keeper for FileKeeper {
     }
 }
 
-impl Vault for FileKeeper {
-    #[tactic(auto, using(crate::proofs::Attached::file_placed))]
+impl<O: FileOpens> Vault for FileKeeper<O> {
+    /// What is attached is what was supposed of the file, as long as it tells.
+    #[tactic(auto, using(crate::proofs::Attached::file_placed, crate::proofs::Found::file_found))]
     fn attach(&mut self, alloc: Global, name: Option<&Txt>, schema: &Txt) -> Result<(), AttachFault>
         requires first { self.old.store.called ≡ false }
         requires schema { (shapes : List ModelShape) × IsSchema schema.now shapes }
         ensures attaches { Attaches (seen_kept self.old) (seen_kept self.new)
             (option_copied name.entry) schema.now result }
         ensures begins { OnOk result (IsFileOf schema.now self.new) }
+        ensures found { OnOk result (IsFound O.holds schema.now self.new) }
     {
+        O::stand();
         self.keeper.attach(alloc, name, schema)
     }
 

@@ -2,12 +2,14 @@
 //! that whoever uses them doesn't prove again how a connection to a file is dropped.
 #![tactic(auto)]
 
+mod content;
 mod file;
 mod laws;
 mod maker;
 mod told;
 mod vault;
 
+pub use content::{FileContent, FileOpens, UnknownContent, UnknownFile};
 pub use file::FileKeeper;
 pub use laws::file_goes_on_telling;
 pub use maker::FileMaker;

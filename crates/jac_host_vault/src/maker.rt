@@ -1,48 +1,52 @@
 ghost use Rattle.std.specs.Prelude.{◌≡◌, List};
 
-use crate::FileKeeper;
 use crate::told::FaultLog;
+use crate::{FileKeeper, FileOpens};
 use jac_keep::{AttachFault, Stop, Vault};
 use jac_reopen::{KnownStore, VaultMaker};
 use jac_table_cache::CachedKeeper;
 use jac_value::Txt;
 use std::alloc::Global;
+use std::marker::PhantomData;
 
 /// Opens files, with their tables held in memory once they were read.
 #[derive(Drop)]
-pub struct FileMaker {
+pub struct FileMaker<O: FileOpens> {
     rt: HostRuntime,
     makes: bool,
     log: FaultLog,
+    opener: PhantomData<O>,
 }
 
-impl FileMaker {
+impl<O: FileOpens> FileMaker<O> {
     /// One that makes the files that aren't there, or refuses them.
-    pub fn new(rt: HostRuntime, makes: bool) -> FileMaker {
+    pub fn new(rt: HostRuntime, makes: bool) -> FileMaker<O> {
         FileMaker {
             rt,
             makes,
             log: FaultLog::new(rt),
+            opener: PhantomData,
         }
     }
 }
 
-impl VaultMaker for FileMaker {
-    ghost use Rattle.jac_host_vault.specs.HostSeen.{IsFileOf};
+impl<O: FileOpens> VaultMaker for FileMaker<O> {
+    ghost use Rattle.jac_host_vault.specs.Content.{IsFileOf};
 
-    type Vault = CachedKeeper<FileKeeper>;
+    type Vault = CachedKeeper<FileKeeper<O>>;
+
+    ghost supposes = { O.holds };
 
     ghost begins = { IsFileOf };
 
     /// Reports on standard error why a file is refused.
-    #[tactic(auto, using(crate::proofs::Attached::unopened_first))]
     fn attach(
         &mut self,
         alloc: Global,
         name: Option<&Txt>,
         schema: &Txt,
-    ) -> (CachedKeeper<FileKeeper>, Result<(), AttachFault>) {
-        let mut file = FileKeeper::new(self.rt, self.makes);
+    ) -> (CachedKeeper<FileKeeper<O>>, Result<(), AttachFault>) {
+        let mut file = FileKeeper::<O>::new(self.rt, self.makes);
         let attached = file.attach(alloc, name, schema);
         if attached.is_err() {
             if let Some(name) = name {
@@ -56,8 +60,8 @@ impl VaultMaker for FileMaker {
         &mut self,
         alloc: Global,
         store: &KnownStore,
-    ) -> Result<CachedKeeper<FileKeeper>, Stop> {
-        let mut file = FileKeeper::new(self.rt, false);
+    ) -> Result<CachedKeeper<FileKeeper<O>>, Stop> {
+        let mut file = FileKeeper::<O>::new(self.rt, false);
         match file.attach(alloc, store.name(), store.schema()) {
             Ok(()) => {
                 file.doubt();
@@ -71,16 +75,16 @@ impl VaultMaker for FileMaker {
         }
     }
 
-    fn tell_fault(&mut self, vault: &CachedKeeper<FileKeeper>, store: &KnownStore) {
+    fn tell_fault(&mut self, vault: &CachedKeeper<FileKeeper<O>>, store: &KnownStore) {
         self.tell(store, vault.keeper().words_of_fault());
     }
 
-    fn faults(&self, vault: &CachedKeeper<FileKeeper>) -> u64 {
+    fn faults(&self, vault: &CachedKeeper<FileKeeper<O>>) -> u64 {
         vault.keeper().faults()
     }
 }
 
-impl FileMaker {
+impl<O: FileOpens> FileMaker<O> {
     fn tell(&mut self, store: &KnownStore, what: &str) {
         if let Some(name) = store.name() {
             self.log.tell(name.as_str(), what);

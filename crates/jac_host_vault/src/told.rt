@@ -1,19 +1,24 @@
 //! Why a file isn't attached, on standard error. Where standard error takes nothing the run goes on
 //! without.
 
-use jac_sqlkeep::{FileOpener, OpenFault, SqlKeeper, Unfit};
+use jac_sqlkeep::{OpenFault, Unfit};
 use jac_value::Txt;
 use sqlite::{Error, ErrorCode};
 use std::time::{Duration, Instant};
 
 /// Writes on standard error why the file of this name wasn't attached, unless another place reports
 /// it, as it does another schema.
-pub(crate) fn tell_refusal(rt: &HostRuntime, name: &Txt, keeper: &SqlKeeper<FileOpener>) {
-    if let Some(fault) = keeper.opener().fault() {
+pub(crate) fn tell_refusal(
+    rt: &HostRuntime,
+    name: &Txt,
+    fault: Option<OpenFault>,
+    unfit: Option<Unfit>,
+) {
+    if let Some(fault) = fault {
         say(rt, name, words_of_fault(fault));
         return;
     }
-    match keeper.unfit() {
+    match unfit {
         Some(Unfit::Row(at)) => say_row(rt, name, at),
         Some(unfit) => say(rt, name, words_of(unfit)),
         None => {}

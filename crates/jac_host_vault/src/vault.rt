@@ -1,4 +1,4 @@
-ghost use Rattle.std.specs.Prelude.{◌≡◌, None, [], List, OnOk, true, false};
+ghost use Rattle.std.specs.Prelude.{◌≡◌, None, [], List, OnOk, IsSome, true, false};
 ghost use Rattle.std.specs.Option.{option_copied};
 ghost use Rattle.jac_rows.specs.Good.{ModelShape};
 ghost use Rattle.jac_keep.specs.Attaching.{Attaches};
@@ -6,32 +6,30 @@ ghost use Rattle.jac_keep.specs.KeeperState.{IsStored, unattached_store};
 ghost use Rattle.jac_keep.specs.Schema.{IsSchema};
 ghost use Rattle.jac_host_vault.specs.HostSeen.{IsStorePlaced};
 
-use crate::{FileKeeper, FileMaker};
 use jac_io::Calls;
 use jac_keep::{AttachFault, Change, Keeper, MemoryKeeper, Place, Stop, Vault};
-use jac_reopen::ReopeningKeeper;
+use jac_reopen::{ReopeningKeeper, VaultMaker};
 use jac_rows::{Row, Rows, State};
 use jac_value::{Id, Txt, Value};
 use std::alloc::Global;
 use std::marker::Model;
 
-/// Where the program keeps its state: in memory, or in the file that it is attached to. The tables
-/// of a file that were read are held in memory until they are changed. A file that a fault of the
-/// disk closed is opened again by the next call, and tells nothing from then on.
+/// Where the program keeps its state: in memory, or in a file, by a maker of such vaults. The
+/// tables of a file that were read are held in memory until they are changed. A file that a fault
+/// of the disk closed is opened again by the next call, and tells nothing from then on.
 #[derive(Drop)]
-pub struct HostVault {
-    rt: HostRuntime,
-    makes: bool,
+pub struct HostVault<M: VaultMaker> {
+    maker: Option<M>,
     alone: bool,
     misnamed: bool,
     memory: MemoryKeeper,
-    file: Option<ReopeningKeeper<FileMaker>>,
+    file: Option<ReopeningKeeper<M>>,
 }
 
-impl Model for HostVault {
+impl<M: VaultMaker> Model for HostVault<M> {
     ghost use Rattle.jac_host_vault.specs.HostSeen.{HostSeen, IsHost};
 
-    ghost Value = { HostSeen };
+    ghost Value = { HostSeen M.Vault };
 
     ghost view = { λ h. record {
       memory = h.memory;
@@ -40,7 +38,7 @@ impl Model for HostVault {
       misnamed = h.misnamed;
     } };
 
-    ghost invariant = { λ h. IsHost (record {
+    ghost invariant = { λ h. IsHost M.Vault.Keeper.seen (record {
       memory = h.memory;
       file = h.file;
       alone = h.alone;
@@ -48,11 +46,11 @@ impl Model for HostVault {
     }) };
 }
 
-impl HostVault {
-    /// A vault that wasn't attached yet, whose state in memory is this one, and which makes the
-    /// files that aren't there or refuses them. It tells nothing before it is attached, since that
-    /// may be to a file.
-    pub fn new(alloc: Global, state: State, rt: HostRuntime, makes: bool) -> HostVault
+impl<M: VaultMaker> HostVault<M> {
+    /// A vault that wasn't attached yet, whose file this maker opens. Before it is attached it
+    /// tells what the maker supposes of the file. It refuses to attach without a name. The state is
+    /// that of its memory, which isn't used.
+    pub fn in_file(alloc: Global, state: State, maker: M) -> HostVault<M>
         requires { IsStored None state }
         ensures { result ≡ record {
           memory = record {
@@ -70,8 +68,7 @@ impl HostVault {
         } }
     {
         HostVault {
-            rt,
-            makes,
+            maker: Some(maker),
             alone: false,
             misnamed: false,
             memory: MemoryKeeper::new(state, None, Calls::empty(alloc), Calls::empty(alloc)),
@@ -81,7 +78,7 @@ impl HostVault {
 
     /// A vault that has memory alone, and this state, which it tells from now on. It refuses each
     /// name.
-    pub fn in_memory(alloc: Global, state: State, rt: HostRuntime) -> HostVault
+    pub fn in_memory(alloc: Global, state: State) -> HostVault<M>
         requires { IsStored None state }
         ensures { result ≡ record {
           memory = record {
@@ -99,23 +96,33 @@ impl HostVault {
         } }
     {
         HostVault {
-            rt,
-            makes: false,
+            maker: None,
             alone: true,
             misnamed: false,
             memory: MemoryKeeper::new(state, None, Calls::empty(alloc), Calls::empty(alloc)),
             file: None,
         }
     }
+
+    // What opens the file, once, where there isn't memory alone.
+    fn take_maker(&mut self) -> Option<M>
+        ensures same { self.new ≡ self.old }
+        ensures some { IsSome result → self.old.alone ≡ false }
+    {
+        if self.alone {
+            return None;
+        }
+        self.maker.take()
+    }
 }
 
-impl Keeper for HostVault {
+impl<M: VaultMaker> Keeper for HostVault<M> {
     ghost use Rattle.jac_host_vault.specs.HostSeen.{seen_host};
     ghost use Rattle.jac_host_vault.specs.GoesOn.{host_goes_on};
 
-    ghost seen = { seen_host };
+    ghost seen = { seen_host M.supposes M.Vault.Keeper.seen };
 
-    ghost goes = { host_goes_on ⟦<FileKeeper as Keeper>⟧.goes };
+    ghost goes = { host_goes_on M.Vault.Keeper.seen M.Vault.Keeper.goes };
 
     #[tactic(auto, using(crate::proofs::Attached::memory_reads))]
     fn number(&mut self) -> Result<u64, Stop> {
@@ -163,10 +170,12 @@ impl Keeper for HostVault {
         }
     }
 
+    /// Memory lends rows where there is memory alone.
     fn held(&self, id: Id, near: Place) -> Option<&[Row]> {
         match &self.file {
             Some(file) => file.held(id, near),
-            None => self.memory.held(id, near),
+            None if self.alone => self.memory.held(id, near),
+            None => None,
         }
     }
 
@@ -181,11 +190,12 @@ impl Keeper for HostVault {
     fn held_rows(&self, model: u8) -> Option<&[Row]> {
         match &self.file {
             Some(file) => file.held_rows(model),
-            None => self.memory.held_rows(model),
+            None if self.alone => self.memory.held_rows(model),
+            None => None,
         }
     }
 
-    #[tactic(auto, using(crate::proofs::Attached::memory_keeps))]
+    #[tactic(auto, using(crate::proofs::Attached::memory_keeps, crate::proofs::Attached::sound_in_memory))]
     fn apply(&mut self, alloc: Global, change: &Change) -> Result<(), Stop> {
         match &mut self.file {
             Some(file) => file.apply(alloc, change),
@@ -194,36 +204,43 @@ impl Keeper for HostVault {
     }
 }
 
-impl Vault for HostVault {
+impl<M: VaultMaker> Vault for HostVault<M> {
     ghost use Rattle.jac_host_vault.specs.HostSeen.{seen_host};
 
-    /// The store of a name is a file; without one it is in memory.
+    /// The store of a name is a file; without one it is in memory. Where it has the other one
+    /// alone, it fails.
     #[tactic(auto, using(crate::proofs::Attached::memory_first, crate::proofs::Attached::file_attached, crate::proofs::Attached::memory_attached, crate::proofs::Attached::host_of_memory, crate::proofs::Attached::name_refused, crate::proofs::Attached::placed_in, crate::proofs::Attached::memory_placed))]
     fn attach(&mut self, alloc: Global, name: Option<&Txt>, schema: &Txt) -> Result<(), AttachFault>
-        requires first { (seen_host self.old).store.called ≡ false }
+        requires first { (seen_host M.supposes M.Vault.Keeper.seen self.old).store.called ≡ false }
         requires schema { (shapes : List ModelShape) × IsSchema schema.now shapes }
-        ensures attaches { Attaches (seen_host self.old) (seen_host self.new)
+        ensures attaches { Attaches (seen_host M.supposes M.Vault.Keeper.seen self.old)
+            (seen_host M.supposes M.Vault.Keeper.seen self.new)
             (option_copied name.entry) schema.now result }
-        ensures placed { OnOk result
-            (IsStorePlaced (option_copied name.entry) schema.now self.new) }
+        ensures placed { OnOk result (IsStorePlaced M.supposes M.Vault.Keeper.seen M.begins
+            (option_copied name.entry) schema.now self.new) }
         ensures same { self.new.alone ≡ self.old.alone }
     {
         match name {
             Some(name) => {
-                if self.alone {
+                let Some(maker) = self.take_maker() else {
                     self.misnamed = true;
                     return Err(AttachFault::Failed);
-                }
-                let maker = FileMaker::new(self.rt, self.makes);
+                };
                 let (file, attached) = ReopeningKeeper::attach(alloc, maker, Some(name), schema);
                 self.file = Some(file);
                 attached
             }
-            None => self.memory.attach(alloc, None, schema),
+            None => {
+                if !self.alone {
+                    self.misnamed = true;
+                    return Err(AttachFault::Failed);
+                }
+                self.memory.attach(alloc, None, schema)
+            }
         }
     }
 
-    #[tactic(auto, using(crate::proofs::Attached::memory_reshapes))]
+    #[tactic(auto, using(crate::proofs::Attached::memory_reshapes, crate::proofs::Attached::fit_in_memory))]
     fn reshape(&mut self, alloc: Global, change: &Change, schema: &Txt) -> Result<(), Stop> {
         match &mut self.file {
             Some(file) => file.reshape(alloc, change, schema),

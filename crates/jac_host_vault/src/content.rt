@@ -1,0 +1,119 @@
+//! What opens a store's file, and what is supposed of that file, for clauses alone.
+ghost use Rattle.std.specs.Prelude.{◌≡◌, [], None, false, true, ℕ, List, Option, IsTrue};
+ghost use Rattle.sqlite.specs.Held.{Held, state};
+ghost use Rattle.sqlite.specs.State.{HasCleanDisk};
+ghost use Rattle.sqlite_wal.specs.Files.{image_at};
+ghost use Rattle.jac_reopen.specs.Reopened.{Supposed};
+ghost use Rattle.jac_host_vault.specs.Content.{StandFor, HoldsSupposed};
+
+use jac_sqlkeep::{FileOpener, OpenFault, Opener};
+use jac_value::Txt;
+use sqlite::{FileFrom, FileStore, Start};
+use std::fs::remove_file;
+
+/// The bytes that a store's log and file hold as they are opened, and the store that they stand
+/// for. No code can read either, so a function over `C: FileContent` is proved for all files that
+/// hold a store, or nothing.
+pub trait FileContent: Start {
+    /// Whether anything is supposed, and the store: its schema, or none where nothing is stored,
+    /// and its state. Nothing stored is the state with the number 1.
+    ghost holds: { Supposed };
+
+    fn new() -> Self;
+
+    /// A law: the bytes stand for the store.
+    fn stand()
+        ensures { StandFor (image_at Self.Start) holds };
+}
+
+/// For `main` to name: nothing is supposed. After a crash each byte is the old one or one that was
+/// written, so most changes wait for the disk once.
+#[derive(Drop)]
+pub struct UnknownContent;
+
+impl Start for UnknownContent {
+    ghost log = { [] };
+
+    ghost db = { [] };
+
+    ghost is_mixing = { true };
+
+    fn mixes() -> bool {
+        true
+    }
+}
+
+impl FileContent for UnknownContent {
+    ghost holds = { record {
+      known = false;
+      schema = None;
+      state = record { tables = []; number = 1 };
+    } };
+
+    fn new() -> UnknownContent {
+        UnknownContent
+    }
+
+    fn stand() {}
+}
+
+/// Opens the file of the program's store, of which nothing is supposed.
+pub type UnknownFile = FileOpener<UnknownContent>;
+
+/// What opens a store's file once, and closes it.
+pub trait FileOpens: Opener + Drop {
+    /// What is supposed of the store in the file.
+    ghost holds: { Supposed };
+
+    /// One that makes the file if it isn't there, or one that doesn't open it then.
+    fn new(rt: HostRuntime, makes: bool) -> Self
+        ensures { Self.Opener.faults result ≡ 0 };
+
+    /// A law: where something is supposed, a database that is given by a clean disk holds it.
+    fn stand()
+        ensures { IsTrue holds.known → (name : Option (List ℕ)) (given : Held Self.Store)
+            → Self.Opener.gives name given → HasCleanDisk (state Self.Store.Store given)
+            → HoldsSupposed holds (state Self.Store.Store given).now };
+
+    /// Why it wasn't opened.
+    fn fault(&self) -> Option<OpenFault>;
+
+    /// Closes the file. Where it was refused, a log that the opening made is removed with it.
+    fn close(&self, rt: &HostRuntime, store: Self::Store, refused: bool);
+}
+
+impl<C: FileContent> FileOpens for FileOpener<C> {
+    ghost holds = { C.holds };
+
+    fn new(rt: HostRuntime, makes: bool) -> FileOpener<C> {
+        FileOpener::new(rt, makes, C::new())
+    }
+
+    fn stand() {
+        C::stand();
+    }
+
+    fn fault(&self) -> Option<OpenFault> {
+        FileOpener::fault(self)
+    }
+
+    /// What can't be copied from the log into the file stays in the log beside it, where the next
+    /// opening finds it. A log that a refused opening made is copied whole and then removed, while
+    /// the files are still locked: so no other program has it.
+    fn close(&self, rt: &HostRuntime, store: FileStore<FileFrom<C>>, refused: bool) {
+        let mut store = store;
+        if store.checkpoint().is_ok() {
+            let _files = store.close();
+            if refused {
+                remove_log(rt, self.new_log());
+            }
+        }
+    }
+}
+
+// Removes the log of this name, if there is one.
+fn remove_log(rt: &HostRuntime, log: Option<&Txt>) {
+    if let Some(log) = log {
+        let _ = remove_file(rt, log.as_str());
+    }
+}
