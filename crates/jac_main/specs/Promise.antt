@@ -9,7 +9,8 @@ use Rattle.jac_cli.specs.declared.words.ServeArgs.{ServeArgs}
 use Rattle.jac_command_base.specs.Files.{Sight}
 use Rattle.jac_command_base.specs.declared.status.Status.{Status}
 use Rattle.jac_run_laws.specs.Replayed.{TopRun, IsTopRun, IsToldToEnd}
-use Rattle.jac_main.specs.Start.{BeginsEmpty}
+use Rattle.jac_reopen.specs.Reopened.{Supposed}
+use Rattle.jac_main.specs.Start.{BeginsSupposed}
 use Rattle.jac_headline.specs.Headline.{Given, HoldGiven, IsReplayTold, HasReplayedFaithfully, HasServedFaithfully}
 
 abbrev pub top_run : {L : Type 0} → (L → LinkSeen) → Sight → Span (DoorSeen L) → Span ℕ
@@ -23,10 +24,11 @@ top_run line seen door splits evaluations status = record {
   status = status;
 }
 
--- its store begins empty; the contract of the top call holds; a replay or a serve that is told to
--- its end is faithful
-pub record KeepsPromise {L : Type 0} (words : List (List ℕ)) (top : TopRun L) : Type 0 where
-  pub begins : BeginsEmpty words top.seen.keeper.before
+-- its store begins empty, or as its file is supposed to; the contract of the top call holds; a
+-- replay or a serve that is told to its end is faithful
+pub record KeepsPromise {L : Type 0} (s : Supposed) (words : List (List ℕ)) (top : TopRun L) :
+    Type 0 where
+  pub begins : BeginsSupposed s words top.seen.keeper.before
   pub ran : IsTopRun words top
   pub replays : (replay : Replay) (given : Given)
       → command_of words ≡ Some (commands.Replay replay)

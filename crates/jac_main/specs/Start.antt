@@ -1,18 +1,27 @@
 -- What the store of a run holds before anything is attached.
-use Rattle.std.specs.Prelude.{◌≡◌, ◌==◌, ℕ, Bool, false, IsTrue, None, List, [], codes}
-use Rattle.std.specs.List.{list_any, starts_with}
+use Rattle.std.specs.Prelude.{◌≡◌, ℕ, Bool, true, false, IsTrue, Option, Some, None, List, [], is_some}
+use Rattle.jac_cli.specs.Words.{command_of}
+use Rattle.jac_cli.specs.Commands.{db_of}
+use Rattle.jac_cli.specs.declared.words.Command.{Command}
 use Rattle.jac_keep.specs.KeeperSeen.{KeeperSeen}
+use Rattle.jac_reopen.specs.Reopened.{Supposed, waiting_keeper}
 
--- some word begins as the option that names a store's file
-abbrev pub asks_for_file : List (List ℕ) → Bool
-asks_for_file words = list_any (λ word. starts_with ◌==◌ word (codes "--db")) words
+-- the command names the file of a store
+abbrev pub has_file : Option Command → Bool
+has_file None = false
+has_file (Some command) = is_some (db_of command)
 
--- nothing is stored, the first number is 1, and nothing failed; where no word asks for a file the
--- store is memory, which tells so before it is attached
-pub record BeginsEmpty (words : List (List ℕ)) (k : KeeperSeen) : Type 0 where
-  pub tells : asks_for_file words ≡ false → IsTrue k.tells
+-- memory of which nothing is stored, and the first number is 1; it tells so before it is attached
+pub record BeginsEmpty (k : KeeperSeen) : Type 0 where
+  pub tells : IsTrue k.tells
   pub tables : k.state.tables ≡ []
   pub number : k.state.number ≡ 1
   pub schema : k.store.schema ≡ None
+
+-- The store isn't attached, and nothing failed. It is memory, and empty, unless the command names a
+-- file; then it tells what is supposed of that file.
+pub record BeginsSupposed (s : Supposed) (words : List (List ℕ)) (k : KeeperSeen) : Type 0 where
+  pub memory : has_file (command_of words) ≡ false → BeginsEmpty k
+  pub file : has_file (command_of words) ≡ true → k ≡ waiting_keeper s
   pub unattached : k.store.attached ≡ false
   pub faults : k.faults ≡ 0

@@ -1,18 +1,19 @@
 //! The program `jac`: the host's files, its audit, standard output and stores, beneath `jac_app`.
 #![tactic(auto)]
 
-ghost use Rattle.std.specs.Prelude.{◌≡◌, ◌<◌, false, []};
+ghost use Rattle.std.specs.Prelude.{◌≡◌, ◌<◌, IfOk, false, []};
 ghost use Rattle.jac_host.specs.Gave.{files_seen};
 ghost use Rattle.jac_host.specs.Sinks.{sink_seen};
 ghost use Rattle.jac_host.specs.Links.{door_seen};
 ghost use Rattle.jac_serve_events.specs.Outside.{span};
 ghost use Rattle.jac_command_base.specs.Files.{sight};
 ghost use Rattle.jac_main.specs.Promise.{KeepsPromise, top_run};
-ghost use Rattle.jac_main.specs.Start.{BeginsEmpty, asks_for_file};
+ghost use Rattle.jac_main.specs.Start.{BeginsSupposed, has_file};
 
 use jac_app::{Status, run};
+use jac_cli::{Command, command_of};
 use jac_host::{HostAudit, HostDoor, HostFiles, HostLink, Outside, Stdout, Unknown};
-use jac_host_vault::HostVault;
+use jac_host_vault::{FileMaker, FileOpens, HostVault, UnknownFile};
 use jac_io::{Door, Failed, Files, Link, Sink};
 use jac_keep::Keeper;
 use jac_rows::{State, Tables};
@@ -24,7 +25,8 @@ use std::sync::ledger::{Blank, Ledger};
 use std::{env, io};
 
 fn main(rt: HostRuntime) -> ExitCode {
-    let status = match run_words::<Brand, Brand, Unknown>(&rt, Blank::new(1), Blank::new(1)) {
+    let ran = run_words::<Brand, Brand, Unknown, UnknownFile>(&rt, Blank::new(1), Blank::new(1));
+    let status = match ran {
         Ok(status) => status,
         Err(Memory) => run_out(&rt),
     };
@@ -39,7 +41,7 @@ fn run_out(rt: &HostRuntime) -> Status {
     }
 }
 
-fn run_words<L: Ledger, M: Ledger, O: Outside>(
+fn run_words<L: Ledger, M: Ledger, O: Outside, F: FileOpens>(
     rt: &HostRuntime,
     blank: Blank,
     second: Blank,
@@ -53,7 +55,7 @@ fn run_words<L: Ledger, M: Ledger, O: Outside>(
 {
     let alloc = rt.alloc();
     let words = words_of(rt)?;
-    let mut vault = vault_for(rt, words.as_slice());
+    let mut vault = vault_for::<F>(rt, words.as_slice())?;
     let mut host: Host<'_, O> = Host {
         files: HostFiles::new(rt),
         out: Stdout::new(rt),
@@ -84,12 +86,13 @@ struct Host<'h, O: Outside> {
 
 // The run over the host, of which nothing was asked yet. `O` is what is supposed of the outside:
 // where the files that were read and the input that was taken are as it says, each clause holds of
-// the bytes that writes took.
-fn run_host<O: Outside, L: Ledger, M: Ledger>(
+// the bytes that writes took. `F` opens the store's file, and supposes what it holds: where its
+// bytes are as it says, each clause on what stood there holds of the store that they stand for.
+fn run_host<O: Outside, F: FileOpens, L: Ledger, M: Ledger>(
     rt: &HostRuntime,
     words: &[Txt],
     host: &mut Host<'_, O>,
-    vault: &mut HostVault,
+    vault: &mut HostVault<FileMaker<F>>,
     splits: &mut Steps<L>,
     evaluations: &mut Steps<M>,
 ) -> Status
@@ -99,13 +102,16 @@ fn run_host<O: Outside, L: Ledger, M: Ledger>(
     requires audit { ⟦<HostAudit<'static> as Sink>⟧.seen host.old.audit ≡ sink_seen [] 0 }
     requires door { ⟦<HostDoor<'static, O> as Door>⟧.seen host.old.door
         ≡ door_seen O.inputs [] [] 0 }
-    requires first { (⟦<HostVault as Keeper>⟧.seen vault.old).store.called ≡ false }
-    requires begins { BeginsEmpty words.now (⟦<HostVault as Keeper>⟧.seen vault.old) }
-    ensures { KeepsPromise words.now (top_run ⟦<HostLink<O> as Link>⟧.seen
+    requires first { (⟦<HostVault<FileMaker<F>> as Keeper>⟧.seen vault.old).store.called
+        ≡ false }
+    requires begins { BeginsSupposed F.holds words.now
+        (⟦<HostVault<FileMaker<F>> as Keeper>⟧.seen vault.old) }
+    ensures { KeepsPromise F.holds words.now (top_run ⟦<HostLink<O> as Link>⟧.seen
         (sight (files_seen O.file [] 0) (⟦<HostFiles<'static, O> as Files>⟧.seen host.new.files)
         (sink_seen [] 0) (⟦<Stdout<'static> as Sink>⟧.seen host.new.out)
         (sink_seen [] 0) (⟦<HostAudit<'static> as Sink>⟧.seen host.new.audit)
-        (⟦<HostVault as Keeper>⟧.seen vault.old) (⟦<HostVault as Keeper>⟧.seen vault.new))
+        (⟦<HostVault<FileMaker<F>> as Keeper>⟧.seen vault.old)
+        (⟦<HostVault<FileMaker<F>> as Keeper>⟧.seen vault.new))
         (span (door_seen O.inputs [] [] 0) (⟦<HostDoor<'static, O> as Door>⟧.seen host.new.door))
         (span splits.old splits.new) (span evaluations.old evaluations.new) result) }
 {
@@ -122,42 +128,52 @@ fn run_host<O: Outside, L: Ledger, M: Ledger>(
     )
 }
 
-// The store that these words ask for, which holds nothing yet: in memory, whose content is told
-// from now on, unless one of them names a file.
-fn vault_for(rt: &HostRuntime, words: &[Txt]) -> HostVault
-    ensures first { (⟦<HostVault as Keeper>⟧.seen result).store.called ≡ false }
-    ensures begins { BeginsEmpty words.now (⟦<HostVault as Keeper>⟧.seen result) }
+// The store that these words ask for: in memory, which holds nothing and tells so from now on,
+// unless their command names a file.
+fn vault_for<F: FileOpens>(
+    rt: &HostRuntime,
+    words: &[Txt],
+) -> Result<HostVault<FileMaker<F>>, Memory>
+    ensures first { IfOk result (λ vault.
+        (⟦<HostVault<FileMaker<F>> as Keeper>⟧.seen vault).store.called ≡ false) }
+    ensures begins { IfOk result (λ vault. BeginsSupposed F.holds words.now
+        (⟦<HostVault<FileMaker<F>> as Keeper>⟧.seen vault)) }
 {
     let alloc = rt.alloc();
+    let command = command_of(alloc, words)?;
     let state = State {
         tables: Tables::empty(alloc),
         number: 1,
     };
-    if names_file(words) {
-        HostVault::new(alloc, state, *rt, makes_files(words))
-    } else {
-        HostVault::in_memory(alloc, state, *rt)
+    if names_file(&command) {
+        let maker = FileMaker::new(*rt, makes_file(&command));
+        return Ok(HostVault::in_file(alloc, state, maker));
     }
+    Ok(HostVault::in_memory(alloc, state))
 }
 
-// Whether some word begins as the option that names a store's file.
-fn names_file(words: &[Txt]) -> bool
-    ensures { result ≡ asks_for_file words.now }
+// Whether the command names the file of a store.
+fn names_file(command: &Option<Command>) -> bool
+    ensures { result ≡ has_file command.now }
 {
-    words
-        .iter()
-        .any(|word| word.as_bytes().starts_with(b"--db"))
+    match command {
+        Some(Command::Replay(replay)) => replay.db.is_some(),
+        Some(Command::Serve(serving)) => serving.db.is_some(),
+        Some(Command::Dump(dumping)) => dumping.db.is_some(),
+        Some(Command::Upgrade(_)) => true,
+        Some(Command::Why(explaining)) => explaining.db.is_some(),
+        Some(Command::Check(_)) => false,
+        Some(Command::Demo(_)) => false,
+        None => false,
+    }
 }
 
 // Whether the command makes a store that isn't there: a dump, an upgrade and a why take one that
 // is.
-fn makes_files(words: &[Txt]) -> bool {
-    match words.first() {
-        Some(command) => {
-            let word = command.as_str();
-            word != "dump" && word != "upgrade" && word != "why"
-        }
-        None => true,
+fn makes_file(command: &Option<Command>) -> bool {
+    match command {
+        Some(Command::Dump(_) | Command::Upgrade(_) | Command::Why(_)) => false,
+        _ => true,
     }
 }
 

@@ -3,4 +3,4 @@ use Rattle.jac_main.proofs.Promised.{promised}
 use Rattle.jac_main.proofs.run_host.Goals as goal
 
 pub returns : goal.returns
-returns g c = promised _ _ c.requires.begins (search rules)
+returns g c = promised _ _ _ c.requires.begins (search rules)
