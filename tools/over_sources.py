@@ -43,13 +43,19 @@ def words_below(crate):
                                                os.path.join(folder(name), 'src', 'lib.rt')))
 
 
+def root():
+    """The root file of the crate in this folder: of a program, or of a library."""
+    main_file = os.path.join('src', 'main.rt')
+    return main_file if os.path.exists(main_file) else os.path.join('src', 'lib.rt')
+
+
 def main():
     parser = argparse.ArgumentParser(description=__doc__)
     parser.add_argument('crate')
     given, words = parser.parse_known_args()
     os.makedirs(os.path.join(folder(given.crate), 'out'), exist_ok=True)
     os.chdir(folder(given.crate))
-    command = ['rattle', 'check', '--crate-name', given.crate, os.path.join('src', 'lib.rt'),
+    command = ['rattle', 'check', '--crate-name', given.crate, root(),
                '-L', 'dependency=' + os.path.join(KIT, 'rlibs'), *words_below(given.crate),
                '--antt-project', os.path.join(KIT, 'rattle', 'logic', 'antt-project.json'),
                '--logic-built', os.path.join(KIT, 'logic_built'), '--links', given.crate + '=', '--jobs', '1',
