@@ -31,7 +31,8 @@ pub fn quoted(alloc: Global, bytes: &[u8]) -> Result<Option<(Bytes, &[u8])>, Mem
 fn content(alloc: Global, bytes: &[u8]) -> Result<Option<(Bytes, &[u8])>, Memory>
     ensures { IfOk result (λ read. option_map (λ p. (p.0, p.1.now)) read ≡ read_quoted bytes.now) }
 {
-    let mut made = Vec::new(alloc);
+    // what is read is no longer than the text that it is read from
+    let mut made = Vec::with_capacity(alloc, bytes.len())?;
     let mut left = bytes;
     'pieces: loop {
         match front_of(left) {
