@@ -7,6 +7,12 @@ use itoa::Buffer;
 use jac_value::{Bytes, Memory, Txt};
 use std::alloc::Global;
 
+// Bytes for which a reply has room beside its body. One that has more grows.
+const HEAD_ROOM: usize = 160;
+
+// Bytes for which the body of a reply without a page has room.
+const FIXED_ROOM: usize = 40;
+
 /// A reply that stands ready, so that it takes no memory.
 #[derive(Clone, Copy, PartialEq, Eq)]
 pub enum Fixed {
@@ -32,15 +38,44 @@ pub fn write_reply(
     ensures { IfOk result (λ b. b ≡ reply_bytes status (option_copied location.entry)
         (option_copied allow.entry) body.now page head close) }
 {
-    let fixed = fixed_body(alloc, status)?;
-    let body = chosen(page, body.as_slice(), fixed.as_slice());
-    let mut reply = Vec::new(alloc);
+    let body = body.as_slice();
+    let mut reply = Vec::with_capacity(alloc, body.len().saturating_add(HEAD_ROOM))?;
     put_status_line(status, &mut reply)?;
-    put_content(page, body.len(), &mut reply)?;
-    put_further(location, allow, close, &mut reply)?;
-    reply.extend_from_slice(b"\r\n")?;
-    put_body(head, body, &mut reply)?;
+    if page {
+        put_rest(page, body, location, allow, head, close, &mut reply)?;
+        return Ok(Bytes::from_vec(reply));
+    }
+    let fixed = fixed_body(alloc, status)?;
+    put_rest(
+        page,
+        fixed.as_slice(),
+        location,
+        allow,
+        head,
+        close,
+        &mut reply,
+    )?;
     Ok(Bytes::from_vec(reply))
+}
+
+// What follows the status line, where this is the body.
+fn put_rest(
+    page: bool,
+    body: &[u8],
+    location: Option<&Txt>,
+    allow: Option<&Txt>,
+    head: bool,
+    close: bool,
+    to: &mut Vec<u8>,
+) -> Result<(), Memory>
+    ensures { OnOk result (to.new.items ≡ to.old.items ++ (content_lines page (length body.now)
+        ++ further_lines (option_copied location.entry) (option_copied allow.entry) close
+        ++ codes "\r\n" ++ (if head then [] else body.now))) }
+{
+    put_content(page, body.len(), to)?;
+    put_further(location, allow, close, to)?;
+    to.extend_from_slice(b"\r\n")?;
+    put_body(head, body, to)
 }
 
 #[tactic(auto, unfolding(crate::specs::Replies::status_line))]
@@ -70,12 +105,6 @@ fn put_further(
     Ok(())
 }
 
-fn chosen<'b>(page: bool, body: &'b [u8], fixed: &'b [u8]) -> &'b [u8]
-    ensures { result.now ≡ (if page then body.now else fixed.now) }
-{
-    if page { body } else { fixed }
-}
-
 fn put_close(close: bool, to: &mut Vec<u8>) -> Result<(), Memory>
     ensures { OnOk result (to.new.items ≡ to.old.items ++ (if close
         then field_line (codes "Connection") (codes "close") else [])) }
@@ -101,7 +130,7 @@ fn fixed_body(alloc: Global, status: u16) -> Result<Vec<u8>, Memory>
     requires { IsSome (phrase_of status) }
     ensures { IfOk result (λ b. b.items ≡ status_text status ++ codes "\n") }
 {
-    let mut body = Vec::new(alloc);
+    let mut body = Vec::with_capacity(alloc, FIXED_ROOM)?;
     put_status(status, &mut body)?;
     body.extend_from_slice(b"\n")?;
     Ok(body)
