@@ -23,7 +23,7 @@ use crate::handler::AppDispatcher;
 use jac_engine::{Prepared, PreparedWithCache, commit, prepare, prepare_with_cache};
 use jac_keep::{Keeper, Stop};
 use jac_policy_cache::{Invalidation, ViewerCache};
-use jac_replies::{Answer, Ask, Spelling, audit_rest, is_head, reply_line, sent_reply, text_bytes};
+use jac_replies::{Answer, Ask, Spelling, audit_rest, is_head, reply_line, sent_reply};
 use jac_resolve::{cache_moves, covered_by_nothing, empty_cache_is_valid};
 use jac_value::{Bytes, Id, Memory, Txt};
 use jac_viewer_caches::ViewerCaches;
@@ -68,10 +68,7 @@ fn reply_via(alloc: Global, via: RequestSource, ask: &Ask, answer: &Answer) -> R
         answer.now) }
 {
     match via {
-        RequestSource::Line => {
-            let line = reply_line(alloc, ask.method.as_bytes(), answer)?;
-            Ok(text_bytes(line))
-        }
+        RequestSource::Line => reply_line(alloc, ask.method.as_bytes(), answer),
         RequestSource::Connection {
             conn,
             close,

@@ -1,3 +1,4 @@
+pub mod Escapes
 pub mod Failed
 pub mod Refused
 pub mod Spelled

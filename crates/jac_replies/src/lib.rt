@@ -2,6 +2,7 @@
 #![tactic(auto)]
 
 mod answer;
+mod quotes;
 mod reply;
 mod still;
 

@@ -6,11 +6,15 @@ ghost use Rattle.jac_value.specs.Quoted.{quoted_bytes};
 ghost use Rattle.jac_replies.specs.Spelled.{reply_text, sent_text, spelled_bytes, audit_rest, consulted_text, location_text, printed_body, viewer_text, labels_text, more_labels, shown_text};
 
 use crate::answer::Answer;
+use crate::quotes::put_quoted;
 use itoa::Buffer;
 use jac_http::write_reply;
-use jac_value::{Bytes, Id, Memory, Txt, escape_line};
-use jac_world::Assignment;
+use jac_value::{Bytes, Id, Memory, Txt};
+use jac_world::{Assignment, Label};
 use std::alloc::Global;
+
+// Bytes that a line has beside those that it quotes, with room for some of their escapes.
+const LINE_ROOM: usize = 64;
 
 /// How the bytes of a reply on a connection are spelled.
 #[derive(Clone, Copy, PartialEq, Eq)]
@@ -22,22 +26,26 @@ pub enum Spelling {
 }
 
 /// The line of a reply: `reply STATUS "LOCATION" "BODY"`. A reply to HEAD has no body.
-pub fn reply_line(alloc: Global, method: &[u8], answer: &Answer) -> Result<Txt, Memory>
+pub fn reply_line(alloc: Global, method: &[u8], answer: &Answer) -> Result<Bytes, Memory>
     ensures { IfOk result (λ line. line ≡ reply_text method.now answer.now.status
         answer.now.location answer.now.body) }
 {
-    let location = escape_line(alloc, location_bytes(answer))?;
-    let body = escape_line(alloc, printed_body(method, answer))?;
-    let line = reply_parts(alloc, answer.status, location.as_str(), body.as_str())?;
-    Ok(line)
+    let body = printed_body(method, answer);
+    let mut line = Vec::with_capacity(alloc, room_for(body))?;
+    let mut digits = Buffer::new();
+    line.extend_from_slice(b"reply ")?;
+    line.extend_from_slice(digits.format(answer.status).as_bytes())?;
+    line.extend_from_slice(b" ")?;
+    put_quoted(location_bytes(answer), &mut line)?;
+    line.extend_from_slice(b" ")?;
+    put_quoted(body, &mut line)?;
+    line.extend_from_slice(b"\n")?;
+    Ok(Bytes::from_vec(line))
 }
 
-fn reply_parts(alloc: Global, status: u16, location: &str, body: &str) -> Result<Txt, Memory>
-    ensures { IfOk result (λ line. line ≡ codes "reply " ++ decimal status ++ codes " "
-        ++ location.now ++ codes " " ++ body.now ++ 10 ∷ []) }
-{
-    let line = format!(in alloc; "reply {status} {location} {body}\n")?;
-    Ok(Txt::from_string(line))
+// The room that a line mostly needs in which these bytes are quoted. A longer one grows.
+fn room_for(bytes: &[u8]) -> usize {
+    (bytes.len() + bytes.len() / 16).saturating_add(LINE_ROOM)
 }
 
 fn location_bytes(answer: &Answer) -> &[u8]
@@ -115,10 +123,7 @@ fn spell(alloc: Global, spelling: Spelling, conn: u32, bytes: Bytes) -> Result<B
     ensures { IfOk result (λ reply. reply ≡ spelled_bytes spelling conn bytes) }
 {
     match spelling {
-        Spelling::Quoted => {
-            let line = sent_bytes(alloc, conn, &bytes)?;
-            Ok(text_bytes(line))
-        }
+        Spelling::Quoted => sent_line(alloc, conn, bytes.as_slice()),
         Spelling::Raw => Ok(bytes),
     }
 }
@@ -130,20 +135,17 @@ pub fn text_bytes(text: Txt) -> Bytes
     Bytes::from_vec(text.into_string().into_bytes())
 }
 
-fn sent_bytes(alloc: Global, conn: u32, bytes: &Bytes) -> Result<Txt, Memory>
+fn sent_line(alloc: Global, conn: u32, bytes: &[u8]) -> Result<Bytes, Memory>
     ensures { IfOk result (λ line. line ≡ sent_text conn bytes.now) }
 {
-    let quoted = escape_line(alloc, bytes.as_slice())?;
-    let line = sent_parts(alloc, conn, quoted.as_str())?;
-    Ok(line)
-}
-
-fn sent_parts(alloc: Global, conn: u32, quoted: &str) -> Result<Txt, Memory>
-    ensures { IfOk result (λ line. line ≡ codes "sent " ++ decimal conn ++ codes " " ++ quoted.now
-        ++ 10 ∷ []) }
-{
-    let line = format!(in alloc; "sent {conn} {quoted}\n")?;
-    Ok(Txt::from_string(line))
+    let mut line = Vec::with_capacity(alloc, room_for(bytes))?;
+    let mut digits = Buffer::new();
+    line.extend_from_slice(b"sent ")?;
+    line.extend_from_slice(digits.format(conn).as_bytes())?;
+    line.extend_from_slice(b" ")?;
+    put_quoted(bytes, &mut line)?;
+    line.extend_from_slice(b"\n")?;
+    Ok(Bytes::from_vec(line))
 }
 
 /// What follows the number in the audit's line of a reply: ` STATUS VIEWER SHOWN`, or ` STATUS
@@ -157,108 +159,92 @@ pub fn audit_rest(
 ) -> Result<Txt, Memory>
     ensures { IfOk result (λ line. line ≡ audit_rest status viewer shown.now consulted.now) }
 {
-    let viewer = viewer_text(alloc, viewer)?;
-    let shown = shown_text(alloc, shown)?;
-    let consulted = consulted_text(alloc, consulted)?;
-    let line = audit_parts(
-        alloc,
-        status,
-        viewer.as_str(),
-        shown.as_str(),
-        consulted.as_str(),
-    )?;
-    Ok(line)
-}
-
-fn audit_parts(
-    alloc: Global,
-    status: u16,
-    viewer: &str,
-    shown: &str,
-    consulted: &str,
-) -> Result<Txt, Memory>
-    ensures { IfOk result (λ line. line ≡ codes " " ++ decimal status ++ codes " " ++ viewer.now
-        ++ codes " " ++ shown.now ++ consulted.now ++ 10 ∷ []) }
-{
-    let line = format!(in alloc; " {status} {viewer} {shown}{consulted}\n")?;
+    let mut line = String::with_capacity(alloc, LINE_ROOM)?;
+    put_head(status, viewer, &mut line)?;
+    put_shown(shown, &mut line)?;
+    put_consulted(consulted, &mut line)?;
+    line.push_str("\n")?;
     Ok(Txt::from_string(line))
 }
 
-// Nothing, or ` of CONSULTED`.
-fn consulted_text(alloc: Global, consulted: &Option<Assignment>) -> Result<Txt, Memory>
-    ensures { IfOk result (λ t. t ≡ consulted_text consulted.now) }
+fn put_head(status: u16, viewer: Option<Id>, to: &mut String) -> Result<(), Memory>
+    ensures { OnOk result (string_bytes to.new ≡ string_bytes to.old ++ (codes " " ++ decimal status
+        ++ codes " " ++ viewer_text viewer ++ codes " ")) }
 {
-    match consulted {
-        None => Ok(Txt::empty(alloc)),
-        Some(labels) => {
-            let text = labels_text(alloc, labels)?;
-            let behind = of_text(alloc, text.as_str())?;
-            Ok(behind)
-        }
-    }
+    let mut digits = Buffer::new();
+    to.push_str(" ")?;
+    to.push_str(digits.format(status))?;
+    to.push_str(" ")?;
+    put_viewer(viewer, to)?;
+    to.push_str(" ")?;
+    Ok(())
 }
 
-fn of_text(alloc: Global, labels: &str) -> Result<Txt, Memory>
-    ensures { IfOk result (λ t. t ≡ codes " of " ++ labels.now) }
+fn put_number(number: u128, to: &mut String) -> Result<(), Memory>
+    ensures { OnOk result (string_bytes to.new ≡ string_bytes to.old ++ decimal number) }
 {
-    let text = format!(in alloc; " of {labels}")?;
-    Ok(Txt::from_string(text))
+    let mut digits = Buffer::new();
+    to.push_str(digits.format(number))?;
+    Ok(())
 }
 
-fn number_text(alloc: Global, number: u128) -> Result<Txt, Memory>
-    ensures { IfOk result (λ t. t ≡ decimal number) }
-{
-    let text = format!(in alloc; "{number}")?;
-    Ok(Txt::from_string(text))
-}
-
-fn viewer_text(alloc: Global, viewer: Option<Id>) -> Result<Txt, Memory>
-    ensures { IfOk result (λ t. t ≡ viewer_text viewer) }
+fn put_viewer(viewer: Option<Id>, to: &mut String) -> Result<(), Memory>
+    ensures { OnOk result (string_bytes to.new ≡ string_bytes to.old ++ viewer_text viewer) }
 {
     match viewer {
-        None => {
-            let text = Txt::from_str(alloc, "-")?;
-            Ok(text)
-        }
-        Some(id) => {
-            let text = number_text(alloc, id.0)?;
-            Ok(text)
-        }
+        None => to.push_str("-")?,
+        Some(id) => put_number(id.0, to)?,
     }
+    Ok(())
 }
 
-fn shown_text(alloc: Global, shown: &Option<Assignment>) -> Result<Txt, Memory>
-    ensures { IfOk result (λ t. t ≡ shown_text shown.now) }
+fn put_shown(shown: &Option<Assignment>, to: &mut String) -> Result<(), Memory>
+    ensures { OnOk result (string_bytes to.new ≡ string_bytes to.old ++ shown_text shown.now) }
 {
     match shown {
-        None => {
-            let text = Txt::from_str(alloc, "nopage")?;
-            Ok(text)
-        }
+        None => to.push_str("nopage")?,
+        Some(labels) => put_labels(labels, to)?,
+    }
+    Ok(())
+}
+
+// Nothing, or ` of CONSULTED`.
+fn put_consulted(consulted: &Option<Assignment>, to: &mut String) -> Result<(), Memory>
+    ensures { OnOk result (string_bytes to.new ≡ string_bytes to.old
+        ++ consulted_text consulted.now) }
+{
+    match consulted {
+        None => (),
         Some(labels) => {
-            let text = labels_text(alloc, labels)?;
-            Ok(text)
+            to.push_str(" of ")?;
+            put_labels(labels, to)?;
         }
     }
+    Ok(())
 }
 
 // The labels, joined by commas.
-fn labels_text(alloc: Global, shown: &Assignment) -> Result<Txt, Memory>
-    ensures { IfOk result (λ t. t ≡ labels_text shown.now) }
+fn put_labels(labels: &Assignment, to: &mut String) -> Result<(), Memory>
+    ensures { OnOk result (string_bytes to.new ≡ string_bytes to.old ++ labels_text labels.now) }
 {
-    match shown.as_slice().split_first() {
-        None => {
-            let text = Txt::from_str(alloc, "-")?;
-            Ok(text)
-        }
+    match labels.as_slice().split_first() {
+        None => to.push_str("-")?,
         Some((first, rest)) => {
-            let mut text = number_text(alloc, first.0)?.into_string();
-            let mut buffer = Buffer::new();
-            'labels: for label in rest {
-                text.push_str(",")?;
-                text.push_str(buffer.format(label.0))?;
-            }
-            Ok(Txt::from_string(text))
+            put_number(first.0, to)?;
+            put_more(rest, to)?;
         }
     }
+    Ok(())
+}
+
+// Each label after a comma.
+fn put_more(labels: &[Label], to: &mut String) -> Result<(), Memory>
+    ensures { OnOk result (string_bytes to.new ≡ string_bytes to.old ++ more_labels labels.now) }
+{
+    let mut digits = Buffer::new();
+    'labels: for label in labels {
+        to.push_str(",")?;
+        to.push_str(digits.format(label.0))?;
+    }
+    Ok(())
 }
