@@ -1,3 +1,4 @@
+pub mod Alone
 pub mod Beginning
 pub mod Bound
 pub mod Buffering
@@ -6,6 +7,7 @@ pub mod Growing
 pub mod Joining
 pub mod Keyed
 pub mod Names
+pub mod Once
 pub mod Owning
 pub mod Places
 pub mod Products

@@ -17,6 +17,7 @@ use Rattle.jac_plain.specs.Expressions.{bound, mean}
 use Rattle.jac_lang.specs.declared.queries.Binder.{Binder}
 use Rattle.jac_pruned.specs.Buffers.{BufferSeen, buffer_for, buffer_with}
 use Rattle.jac_pruned.proofs.Buffering.{buffer-push}
+use Rattle.jac_pruned.specs.Tupled.{lengthened_tuples}
 use Rattle.jac_pruned.specs.Runs.{Left, left_at, run_left, run_in, IsReadingStatement, AreReading}
 
 mutual
@@ -99,6 +100,23 @@ pub tuples_end : (bs : List Binder) (body : List ℕ → Run → Run) (tuples : 
     → Comes now (for_each bs body (drop i tuples)) end → now ≡ run_left end
 tuples_end bs body tuples i now end past all =
     comes_last now end (subst (λ (ts : List (List ℕ)). Comes now (for_each bs body ts) end) (drop_all i tuples past) all)
+
+-- after one record more of a loop over one binder's records
+pub record_more : (b : Binder) (body : List ℕ → Run → Run) (j : ℕ) (left rest : List ℕ) (end : Run) (w : ℕ → Bool) (old s : State)
+    (env env2 : List Binding) (page page2 : BufferSeen)
+    → left ≡ j ∷ rest → old ≡ s
+    → ((pieces : List Piece) → page ≡ buffer_for pieces → left_at w old env2 page2 ≡ run_left (scoped_run (bound (b ∷ []) (j ∷ []) env) (body (j ∷ [])) (run_in w old env pieces)))
+    → Comes (left_at w s env page) (for_each (b ∷ []) body (lengthened_tuples [] left)) end
+    → Comes (left_at w s env2 page2) (for_each (b ∷ []) body (lengthened_tuples [] rest)) end
+record_more b body j left rest end w old s env env2 page page2 split same h before =
+    tuple_more (b ∷ []) body (j ∷ []) (lengthened_tuples [] left) (lengthened_tuples [] rest) end w old s env env2 page page2
+    (ap (lengthened_tuples []) split) same h before
+
+-- behind the last record
+pub records_end : (b : Binder) (body : List ℕ → Run → Run) (js : List ℕ) (i : ℕ) (now : Left) (end : Run) → length js ≤ i
+    → Comes now (for_each (b ∷ []) body (lengthened_tuples [] (drop i js))) end → now ≡ run_left end
+records_end b body js i now end past all =
+    comes_last now end (subst (λ (ks : List ℕ). Comes now (for_each (b ∷ []) body (lengthened_tuples [] ks)) end) (drop_all i js past) all)
 
 -- the body under more bindings, which are cut again
 pub scopes : (body : Run → Run) (w : ℕ → Bool) (s : State) (env more inner left new : List Binding) (n : ℕ) (page : BufferSeen) (pieces : List Piece)

@@ -1,8 +1,10 @@
 pub mod Alike
 pub mod Begun
 pub mod Buffers
+pub mod Columns
 pub mod Consulted
 pub mod Local
+pub mod OneSorted
 pub mod Own
 pub mod Places
 pub mod Runs

@@ -3,13 +3,18 @@
 #![tactic(auto, using(crate::proofs::Growing::grows_same, crate::proofs::Growing::grows_then, crate::proofs::Growing::agrees_less, crate::proofs::Growing::holds_alike))]
 
 mod alike;
+mod answering;
 mod assignments;
 mod binding;
 mod candidate;
 mod choice;
+mod column;
 mod evaluation;
+mod kept_names;
+mod one_sorted;
 mod order;
 mod page_buffer;
+mod page_cells;
 mod presence;
 mod product;
 mod progress;

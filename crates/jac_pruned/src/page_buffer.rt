@@ -3,10 +3,11 @@ ghost use Rattle.std.specs.Prelude.{◌≡◌, [], IfOk, OnOk};
 ghost use Rattle.jac_value.specs.Values.{value_text};
 ghost use Rattle.jac_plain.specs.declared.page.Piece.TheVariants as piece;
 ghost use Rattle.jac_plain.specs.Expressions.{bytes_of};
+ghost use Rattle.jac_plain.specs.Pieces.{piece_of};
 ghost use Rattle.jac_value.specs.Html.{html};
 ghost use Rattle.jac_pruned.specs.Buffers.{buffer_for, buffer_of, page_in, buffer_with};
 
-use jac_plain::{Page, make_page};
+use jac_plain::{Form, Page, make_page};
 use jac_value::{Bytes, Memory, Txt, Value};
 use std::alloc::Global;
 
@@ -52,6 +53,22 @@ impl PageBuffer {
             (piece.Added (html (value_text value.now))) (buffer_of self.old)) }
     {
         jac_plain::add_escaped(alloc, &mut self.body, value)
+    }
+
+    /// Adds what the value adds in this form.
+    pub fn add(&mut self, alloc: Global, form: Form, value: &Value) -> Result<(), Memory>
+        ensures { OnOk result (buffer_of self.new ≡ buffer_with (piece_of form value.now)
+            (buffer_of self.old)) }
+    {
+        match form {
+            Form::Text => self.add_text(alloc, value),
+            Form::Escaped => self.add_escaped(alloc, value),
+            Form::Location => {
+                let value = value.copy(alloc)?;
+                self.lead_to(alloc, value);
+                Ok(())
+            }
+        }
     }
 
     /// Says that the page isn't there.

@@ -1,29 +1,35 @@
 //! The run of statements that write nothing, in the world that an assignment shows, and its page.
 //! `execute` only looks at the form; each form is a function of its own.
-ghost use Rattle.std.specs.Prelude.{◌≡◌, ℕ, Bool, true, None, IfOk, OnOk, IsTrue};
+ghost use Rattle.std.specs.Prelude.{◌≡◌, ◌∷◌, [], ℕ, Bool, true, None, IfOk, OnOk, IsTrue};
 ghost use Rattle.jac_world.specs.World.{shown_by};
 ghost use Rattle.jac_keep.specs.WorkState.{state_of, IsTold, ReadsWork};
 ghost use Rattle.jac_lang.specs.Mirror.{binders_of, expression_of, question_of, statement_of, statements_of};
-ghost use Rattle.jac_lang.specs.Syntax.{Statement};
+ghost use Rattle.jac_lang.specs.Syntax.{Expression, Statement};
 ghost use Rattle.jac_plain.specs.Expressions.{bound};
 ghost use Rattle.jac_plain.specs.Reading.{are_reading};
-ghost use Rattle.jac_plain.specs.Statements.{for_each, leaves, leaves_all, scoped_run, with_binding};
+ghost use Rattle.jac_plain.specs.Statements.{for_each, leaves, leaves_all, scoped_run, value_in, with_binding, with_piece};
+ghost use Rattle.jac_plain.specs.Pieces.{piece_of};
 ghost use Rattle.jac_pruned.specs.Consulted.{Agrees, Grows};
+ghost use Rattle.jac_pruned.specs.OneSorted.{SortsBinder};
+ghost use Rattle.jac_pruned.specs.Tupled.{lengthened_tuples};
 ghost use Rattle.jac_pruned.specs.Runs.{page_ran, IsPageMade, RunsShown, IsReadingStatement, AreReading};
 ghost use Rattle.jac_plain.specs.Shown.{setting_around, setting_at};
 
 use crate::Support;
+use crate::answering::answering_ids;
 use crate::assignments::assign;
-use crate::binding::{bind_tuple, bind_value, loop_of};
+use crate::binding::{bind_value, binder_alone, loop_of};
 use crate::evaluation::{answers_at, eval};
+use crate::kept_names::{rebind, rebind_tuple, unbind};
 use crate::page_buffer::PageBuffer;
+use crate::page_cells::{PageCell, add_got};
 use crate::progress::Progress;
 use crate::scope::text_at_hand;
 use crate::world_context::WorldContext;
 use jac_keep::{Keeper, Stop, Work};
-use jac_lang::{Binders, Expr, PlainEnv, Query, Stmt, Stmts};
-use jac_plain::{Ctx, Page, is_true};
-use jac_value::{Ids, Txt, Value};
+use jac_lang::{Binder, Binders, Expr, PlainEnv, Query, Stmt, Stmts};
+use jac_plain::{Ctx, Form, Page, is_true};
+use jac_value::{Id, Ids, Txt, Value};
 
 /// The page of statements that write nothing, run from these bindings in the world that the
 /// assignment shows. The labels that were consulted are added to the support: under each assignment
@@ -54,10 +60,15 @@ pub fn run_body_at<K: Keeper>(
     let outside = WorldContext { ctx: &ctx, ..*at };
     let mut run = Progress {
         env: env.into_vec(),
+        kept: Vec::new(work.alloc),
         page: PageBuffer::empty(work.alloc),
     };
     execute_all(work, &outside, &mut run, body, support)?;
-    let Progress { env: _, page } = run;
+    let Progress {
+        env: _,
+        kept: _,
+        page,
+    } = run;
     let page = page.into_page(work.alloc)?;
     Ok(page)
 }
@@ -151,8 +162,59 @@ fn execute_put<K: Keeper>(
             run.page.add_bytes(text)?;
             Ok(())
         }
-        None => put_value(work, at, run, e, support),
+        None => put_other(work, at, run, e, support),
     }
+}
+
+// Adds the text of a field, from where it is lent, or of another value.
+fn put_other<K: Keeper>(
+    work: &mut Work<'_, K>,
+    at: &WorldContext<'_>,
+    run: &mut Progress,
+    e: &Expr,
+    support: &mut Support,
+) -> Result<(), Stop>
+    requires attached { IsTrue (K.seen work.old.keeper.now).store.attached }
+    requires no_record { at.now.ctx.now.this ≡ None }
+    ensures left { IsTold K.seen work.new
+        → OnOk result (RunsShown support.new at.now
+        (λ w. leaves (setting_at at.now.app.now at.now.ctx.now w)
+        (Statement.put (expression_of e.now))) (state_of K.seen work.old) run.old run.new) }
+    ensures reads { ReadsWork K.seen work.old work.new result }
+    ensures grows { Grows support.old support.new }
+{
+    match e {
+        Expr::Get(model, field, of) => {
+            let form = Form::Text;
+            let cell = PageCell { form, model, field };
+            show_cell(work, at, run, &cell, of, support)
+        }
+        _ => put_value(work, at, run, e, support),
+    }
+}
+
+// Adds the field of the record that the expression refers to.
+fn show_cell<K: Keeper>(
+    work: &mut Work<'_, K>,
+    at: &WorldContext<'_>,
+    run: &mut Progress,
+    cell: &PageCell<'_>,
+    of: &Expr,
+    support: &mut Support,
+) -> Result<(), Stop>
+    requires attached { IsTrue (K.seen work.old.keeper.now).store.attached }
+    requires no_record { at.now.ctx.now.this ≡ None }
+    ensures left { IsTold K.seen work.new
+        → OnOk result (RunsShown support.new at.now
+        (λ w r. with_piece (piece_of cell.now.form (value_in (setting_at at.now.app.now
+        at.now.ctx.now w) (Expression.get cell.now.model.now cell.now.field.now
+        (expression_of of.now)) r)) r) (state_of K.seen work.old) run.old run.new) }
+    ensures reads { ReadsWork K.seen work.old work.new result }
+    ensures grows { Grows support.old support.new }
+{
+    let value = eval(work, at, run.env.as_slice(), of, support)?;
+    add_got(work, at, cell, &value, &mut run.page, support)?;
+    Ok(())
 }
 
 // Adds the text of a value that is evaluated first.
@@ -177,8 +239,35 @@ fn put_value<K: Keeper>(
     Ok(())
 }
 
-// Adds the HTML escape of the value's text.
+// Adds the HTML escape of the text of a field, from where it is lent, or of another value.
 fn execute_escape<K: Keeper>(
+    work: &mut Work<'_, K>,
+    at: &WorldContext<'_>,
+    run: &mut Progress,
+    e: &Expr,
+    support: &mut Support,
+) -> Result<(), Stop>
+    requires attached { IsTrue (K.seen work.old.keeper.now).store.attached }
+    requires no_record { at.now.ctx.now.this ≡ None }
+    ensures left { IsTold K.seen work.new
+        → OnOk result (RunsShown support.new at.now
+        (λ w. leaves (setting_at at.now.app.now at.now.ctx.now w)
+        (Statement.escape (expression_of e.now))) (state_of K.seen work.old) run.old run.new) }
+    ensures reads { ReadsWork K.seen work.old work.new result }
+    ensures grows { Grows support.old support.new }
+{
+    match e {
+        Expr::Get(model, field, of) => {
+            let form = Form::Escaped;
+            let cell = PageCell { form, model, field };
+            show_cell(work, at, run, &cell, of, support)
+        }
+        _ => escape_value(work, at, run, e, support),
+    }
+}
+
+// Adds the HTML escape of the text of a value that is evaluated first.
+fn escape_value<K: Keeper>(
     work: &mut Work<'_, K>,
     at: &WorldContext<'_>,
     run: &mut Progress,
@@ -352,6 +441,125 @@ fn execute_for<K: Keeper>(
     ensures reads { ReadsWork K.seen work.old work.new result }
     ensures grows { Grows support.old support.new }
 {
+    match binder_alone(query) {
+        Some(binder) => execute_alone(work, at, run, binder, query, body, support),
+        None => execute_answers(work, at, run, query, body, support),
+    }
+}
+
+// The same for a query of one binder, whose answers are sorted by one of its fields, or not at all.
+#[cycle(run)]
+fn execute_alone<K: Keeper>(
+    work: &mut Work<'_, K>,
+    at: &WorldContext<'_>,
+    run: &mut Progress,
+    binder: &Binder,
+    query: &Query,
+    body: &Stmts,
+    support: &mut Support,
+) -> Result<(), Stop>
+    requires attached { IsTrue (K.seen work.old.keeper.now).store.attached }
+    requires no_record { at.now.ctx.now.this ≡ None }
+    requires reading { AreReading (statements_of body.now) }
+    requires alone { binders_of query.now.binders ≡ binder.now ∷ [] }
+    requires order { SortsBinder binder.now query.now.order }
+    ensures left { IsTold K.seen work.new
+        → OnOk result (RunsShown support.new at.now
+        (λ w. leaves (setting_at at.now.app.now at.now.ctx.now w)
+        (Statement.each (question_of query.now) (statements_of body.now)))
+        (state_of K.seen work.old) run.old run.new) }
+    ensures reads { ReadsWork K.seen work.old work.new result }
+    ensures grows { Grows support.old support.new }
+{
+    let ids = answering_ids(work, at, run.env.as_slice(), binder, query, support)?;
+    let ids = ids.as_slice();
+    execute_records(work, at, run, binder, ids, body, support)?;
+    Ok(())
+}
+
+// The body for each of the records of a binder.
+#[cycle(run)]
+fn execute_records<K: Keeper>(
+    work: &mut Work<'_, K>,
+    at: &WorldContext<'_>,
+    run: &mut Progress,
+    binder: &Binder,
+    ids: &[Id],
+    body: &Stmts,
+    support: &mut Support,
+) -> Result<(), Stop>
+    requires attached { IsTrue (K.seen work.old.keeper.now).store.attached }
+    requires no_record { at.now.ctx.now.this ≡ None }
+    requires reading { AreReading (statements_of body.now) }
+    ensures left { IsTold K.seen work.new
+        → OnOk result (RunsShown support.new at.now (λ w. for_each (binder.now ∷ [])
+        (λ ids. leaves_all (setting_around at.now.app.now at.now.ctx.now ids w)
+        (statements_of body.now)) (lengthened_tuples [] ids.now)) (state_of K.seen work.old)
+        run.old run.new) }
+    ensures reads { ReadsWork K.seen work.old work.new result }
+    ensures grows { Grows support.old support.new }
+{
+    'ids: for id in ids {
+        execute_record(work, at, run, binder, *id, body, support)?;
+    }
+    Ok(())
+}
+
+// The body with the binder bound to the record.
+#[cycle(run)]
+fn execute_record<K: Keeper>(
+    work: &mut Work<'_, K>,
+    at: &WorldContext<'_>,
+    run: &mut Progress,
+    binder: &Binder,
+    id: Id,
+    body: &Stmts,
+    support: &mut Support,
+) -> Result<(), Stop>
+    requires attached { IsTrue (K.seen work.old.keeper.now).store.attached }
+    requires no_record { at.now.ctx.now.this ≡ None }
+    requires reading { AreReading (statements_of body.now) }
+    ensures left { IsTold K.seen work.new
+        → OnOk result (RunsShown support.new at.now
+        (λ w r. scoped_run (bound (binder.now ∷ []) (id ∷ []) r.env)
+        (leaves_all (setting_around at.now.app.now at.now.ctx.now (id ∷ []) w)
+        (statements_of body.now)) r) (state_of K.seen work.old) run.old run.new) }
+    ensures reads { ReadsWork K.seen work.old work.new result }
+    ensures grows { Grows support.old support.new }
+{
+    let ctx = Ctx {
+        around: Some(id),
+        ..*at.ctx
+    };
+    let inside = WorldContext { ctx: &ctx, ..*at };
+    let outer = run.env.len();
+    rebind(work.alloc, &mut run.env, &mut run.kept, &binder.name, id)?;
+    execute_all(work, &inside, run, body, support)?;
+    unbind(&mut run.env, &mut run.kept, outer)?;
+    Ok(())
+}
+
+// The same for any query.
+#[cycle(run)]
+fn execute_answers<K: Keeper>(
+    work: &mut Work<'_, K>,
+    at: &WorldContext<'_>,
+    run: &mut Progress,
+    query: &Query,
+    body: &Stmts,
+    support: &mut Support,
+) -> Result<(), Stop>
+    requires attached { IsTrue (K.seen work.old.keeper.now).store.attached }
+    requires no_record { at.now.ctx.now.this ≡ None }
+    requires reading { AreReading (statements_of body.now) }
+    ensures left { IsTold K.seen work.new
+        → OnOk result (RunsShown support.new at.now
+        (λ w. leaves (setting_at at.now.app.now at.now.ctx.now w)
+        (Statement.each (question_of query.now) (statements_of body.now)))
+        (state_of K.seen work.old) run.old run.new) }
+    ensures reads { ReadsWork K.seen work.old work.new result }
+    ensures grows { Grows support.old support.new }
+{
     let answers = answers_at(work, at, run.env.as_slice(), query, support)?;
     let binders = &query.binders;
     let answers = answers.as_slice();
@@ -414,8 +622,8 @@ fn execute_bound<K: Keeper>(
     };
     let inside = WorldContext { ctx: &ctx, ..*at };
     let outer = run.env.len();
-    bind_tuple(work.alloc, &mut run.env, binders, ids)?;
+    rebind_tuple(work.alloc, &mut run.env, &mut run.kept, binders, ids)?;
     execute_all(work, &inside, run, body, support)?;
-    run.env.truncate(outer);
+    unbind(&mut run.env, &mut run.kept, outer)?;
     Ok(())
 }

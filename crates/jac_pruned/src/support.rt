@@ -1,5 +1,5 @@
 //! The labels that were consulted.
-ghost use Rattle.std.specs.Prelude.{◌≡◌, ◌==◌, ◌||◌, ℕ, [], Bool, true, Option, IfOk, OnOk};
+ghost use Rattle.std.specs.Prelude.{◌≡◌, ◌==◌, ◌||◌, ℕ, [], Bool, true, Option, IfOk, OnOk, IsTrue};
 ghost use Rattle.jac_world.specs.World.{shown_by, holds, names, IsAscending};
 ghost use Rattle.jac_pruned.specs.Consulted.{Agrees, Grows};
 ghost use Rattle.jac_pruned.specs.Own.{IsOwn, names_own};
@@ -11,9 +11,14 @@ use std::marker::Model;
 
 /// The labels that were consulted, by rising number. None is taken away. What was found stays right
 /// under each assignment that shows the same of them.
+///
+/// Labels are mostly consulted by rising number, so that each is first sought near the one before
+/// it. No answer depends on where that stands.
 #[derive(Drop)]
 pub struct Support {
     labels: Vec<Label>,
+    // where in an assignment the last label stands that was found there
+    near: usize,
 }
 
 impl Model for Support {
@@ -33,6 +38,7 @@ impl Support {
     {
         Support {
             labels: Vec::new(alloc),
+            near: 0,
         }
     }
 
@@ -57,6 +63,14 @@ impl Support {
         ensures grows { Grows self.old self.new }
     {
         add_label(&mut self.labels, label)
+    }
+
+    // Whether the guard of these pairs holds.
+    fn meets(&mut self, pairs: &[(Label, bool)], assignment: &Assignment) -> bool
+        ensures met { result ≡ holds (shown_by assignment.now) pairs.now }
+        ensures same { self.new ≡ self.old }
+    {
+        are_met(pairs, assignment, &mut self.near)
     }
 }
 
@@ -90,13 +104,60 @@ pub(crate) fn consult(
         → OnOk result (IsOwn this support.new) }
 {
     add_labels(pairs, support)?;
-    Ok(are_met(pairs, assignment))
+    Ok(support.meets(pairs, assignment))
 }
 
-fn are_met(pairs: &[(Label, bool)], assignment: &Assignment) -> bool
+// Whether the guard of these pairs holds. A label alone is sought near the place first.
+fn are_met(pairs: &[(Label, bool)], assignment: &Assignment, near: &mut usize) -> bool
+    ensures { result ≡ holds (shown_by assignment.now) pairs.now }
+{
+    match pairs {
+        [pair] => pair.1 == is_shown(assignment.as_slice(), pair.0, near),
+        _ => are_all_met(pairs, assignment),
+    }
+}
+
+fn are_all_met(pairs: &[(Label, bool)], assignment: &Assignment) -> bool
     ensures { result ≡ holds (shown_by assignment.now) pairs.now }
 {
     pairs.iter().all(|pair| pair.1 == assignment.shows(pair.0))
+}
+
+// Whether the label is among those that are shown: at the place, behind it, or by bisection. The
+// place is then where it stands.
+fn is_shown(shown: &[Label], label: Label, near: &mut usize) -> bool
+    requires { IsAscending shown.now }
+    ensures { result ≡ shown_by shown.now label }
+{
+    if stands_at(shown, *near, label) {
+        return true;
+    }
+    let next = near.saturating_add(1);
+    if stands_at(shown, next, label) {
+        *near = next;
+        return true;
+    }
+    is_found(shown, label, near)
+}
+
+fn stands_at(shown: &[Label], place: usize, label: Label) -> bool
+    ensures { IsTrue result → shown_by shown.now label ≡ true }
+{
+    if place >= shown.len() {
+        return false;
+    }
+    shown[place] == label
+}
+
+fn is_found(shown: &[Label], label: Label, near: &mut usize) -> bool
+    requires { IsAscending shown.now }
+    ensures { result ≡ shown_by shown.now label }
+{
+    let found = shown.binary_search(&label);
+    if let Ok(place) = &found {
+        *near = *place;
+    }
+    found.is_ok()
 }
 
 fn add_labels(pairs: &[(Label, bool)], support: &mut Support) -> Result<(), Memory>

@@ -7,6 +7,7 @@ use Rattle.jac_rows.specs.Tables.{rows_of}
 use Rattle.jac_pruned.specs.Own.{are_own_rows, is_own_row}
 use Rattle.jac_pruned.proofs.Lent.{lent_before}
 use Rattle.jac_pruned.proofs.Owning.{all_alternatives}
+use Rattle.jac_pruned.specs.Columns.{absent_in}
 use Rattle.jac_pruned.proofs.reading.read_own.Goals as goal
 
 pub returns-in-Some-looked-clause-value : goal.returns-in-Some-looked-clause-value
@@ -14,7 +15,7 @@ returns-in-Some-looked-clause-value g c told w agree =
     let id = c.args.id in
     let seen = g.K.Keeper.seen in
     c.in_ok-cell.ensures.value w agree
-    ∙ ap (λ o. cell_of o c.args.field c.args.absent.now)
+    ∙ ap (λ o. cell_of o c.args.column.now.field (absent_in c.args.column.now))
     (record_of_alternatives w id (model_of_id id) (state_of seen c.args.work.now).tables c.in-Some-looked.rows.now
     (lent_before seen c.args.work.now _ id c.in-Some-looked.rows.now c.in_ok-near.ensures.same told (c.in-Some-looked.ensures told)))
 
@@ -32,7 +33,7 @@ returns-clause-value g c told w agree =
     let seen = g.K.Keeper.seen in
     let reads = c.in_ok-rows.ensures.reads in
     c.in_ok-cell-2.ensures.value w agree
-    ∙ ap (λ o. cell_of o c.args.field c.args.absent.now)
+    ∙ ap (λ o. cell_of o c.args.column.now.field (absent_in c.args.column.now))
     (record_of_alternatives w id (model_of_id id) (state_of seen c.args.work.now).tables c.as_slice.result.now
     (c.as_slice.ensures ∙ lent_before seen c.args.work.now _ id c.in_ok-rows.rows c.in_ok-near.ensures.same (reads.same.told told) (c.in_ok-rows.ensures.exact told)))
 

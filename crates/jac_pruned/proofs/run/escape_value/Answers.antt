@@ -11,7 +11,7 @@ use Rattle.jac_value.specs.Html.{html}
 use Rattle.jac_pruned.specs.Buffers.{buffer_of}
 use Rattle.jac_pruned.specs.Runs.{run_in}
 use Rattle.jac_pruned.proofs.Running.{piece_more, value_here}
-use Rattle.jac_pruned.proofs.run.execute_escape.Goals as goal
+use Rattle.jac_pruned.proofs.run.escape_value.Goals as goal
 
 pub returns-clause-left : goal.returns-clause-left
 returns-clause-left g c told w agree pieces is =
