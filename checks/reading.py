@@ -158,7 +158,7 @@ class Repository:
     def __init__(self):
         self.specs, self.code, self.types = {}, {}, {}
         for crate in sorted(os.listdir(os.path.join(TOP, 'crates'))):
-            if crate not in ('jac_tests', 'jac_main_tests'):
+            if not crate.endswith('_tests'):
                 self.add_files(crate, 'specs', '.antt', Specs, self.specs)
                 self.add_files(crate, 'src', '.rt', Code, self.code)
         for (crate, _), place in self.code.items():

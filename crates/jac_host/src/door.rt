@@ -43,12 +43,6 @@ impl<'r, O: Outside> HostDoor<'r, O> {
             faults: 0,
         }
     }
-
-    /// Where it listens.
-    #[cfg(test)]
-    pub fn address(&self) -> Option<SocketAddr> {
-        self.room.as_ref()?.listener().local_addr().ok()
-    }
 }
 
 impl<O: Outside> Door for HostDoor<'_, O> {

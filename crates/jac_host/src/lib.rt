@@ -17,8 +17,6 @@ mod outside;
 mod pace;
 mod room;
 mod sinks;
-#[cfg(test)]
-mod tests;
 mod told;
 
 pub use door::HostDoor;
