@@ -19,6 +19,7 @@ BENCHES = {
     'records': 'the page of one record among many; words: numbers of records',
     'examples': 'the lists of the four larger applications; words: numbers of records',
     'files': 'what grows with the length of a file or a connection; words: parts of the names of the series',
+    'attaching': 'attaching a file and answering one list; words: numbers of records',
     'connections': 'pages over real connections and over stores in files, beside Flask and Django',
 }
 
