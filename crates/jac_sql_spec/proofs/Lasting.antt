@@ -9,9 +9,9 @@ use Rattle.sqlite.specs.Listing.{understood}
 use Rattle.sqlite.proofs.Callers.{IsPlain}
 use Rattle.jac_io.specs.Faults.{Rose}
 use Rattle.jac_sql_spec.specs.Lasting.{ConnectionLasts, IsSeenUnmoved, LeavesStoredTables}
-use Rattle.jac_sql_spec.specs.Statements.{reading, key_reading, all_reading}
+use Rattle.jac_sql_spec.specs.Statements.{reading, key_reading}
 use Rattle.jac_sql_spec.specs.Tables.{two_tables}
-use Rattle.jac_sql_spec.proofs.RawRows.{key_plain, all_plain}
+use Rattle.jac_sql_spec.proofs.RawRows.{key_plain}
 use Rattle.jac_sql_spec.proofs.Stays.{Stays, clean_if_open, fails_stays, shown_open, shown_same, row_open, row_stays, same_now}
 use Rattle.jac_sql_spec.proofs.Texts.{number_plain}
 
@@ -87,10 +87,6 @@ module _ (old new : Sql) (law : new.is_clean ≡ false → new.is_open ≡ false
   pub keys_leave : {V : Type 0} (items : V → List Row) (r : Result V Error) → (HasCleanDisk new → IfOk r (λ v. Shown key_reading [] old new (items v))) → (HasCleanDisk new → IfErr r (FailsToQuery key_reading [] old new)) → LeavesStoredTables old new
   unfolding key_reading
   keys_leave items r shown fails = rows_leave items key_reading key_plain.0 r shown fails
-
-  pub all_leave : {V : Type 0} (items : V → List Row) (r : Result V Error) → (HasCleanDisk new → IfOk r (λ v. Shown all_reading [] old new (items v))) → (HasCleanDisk new → IfErr r (FailsToQuery all_reading [] old new)) → LeavesStoredTables old new
-  unfolding all_reading
-  all_leave items r shown fails = rows_leave items all_reading all_plain.0 r shown fails
 
   -- the row of the number and the schema
   pub row_leaves : (r : Result Row Error) → (HasCleanDisk new → QueriesRow reading [] old new r) → LeavesStoredTables old new

@@ -19,6 +19,7 @@ pub mod Reopened
 pub mod Sound
 pub mod Stays
 pub mod Stepped
+pub mod Streams
 pub mod Taken
 pub mod Tests
 pub mod Texts

@@ -36,7 +36,7 @@ use Rattle.jac_sql_spec.specs.Tables.{two_tables, strict, meta, rec}
 use Rattle.jac_sql_spec.specs.Testing.{fact_shown, IsLineShown, IsAbove, AreAbove, AreRowidsApart}
 use Rattle.jac_sql_spec.specs.Told.{natural_in, bytes_in_value}
 use Rattle.jac_sql_spec.proofs.Permuted.{apart_permuted}
-use Rattle.jac_sql_spec.proofs.Texts.{over, by, by_value, all_text, all_is}
+use Rattle.jac_sql_spec.proofs.Texts.{over, by, all_text, all_is}
 
 -- ---- the two texts
 
@@ -55,7 +55,7 @@ abbrev of_keys : Query
 of_keys = over 0 [] (col 1 0 ∷ []) []
 
 abbrev of_all : Query
-of_all = over 1 [] (col 1 1 ∷ col 1 2 ∷ col 1 3 ∷ col 1 4 ∷ col 1 5 ∷ col 1 0 ∷ []) (by_value 1 ∷ by 2 ∷ by 3 ∷ [])
+of_all = over 1 [] (col 1 1 ∷ col 1 2 ∷ col 1 3 ∷ col 1 4 ∷ col 1 5 ∷ col 1 0 ∷ []) (by 1 ∷ by 2 ∷ by 3 ∷ [])
 
 key_is : command_of (understood (two_tables 0 1 2) key_text) ≡ Select (record { lets = []; body = of_keys }) (codes "k" ∷ [])
 unfolding understood everything

@@ -15,15 +15,15 @@ use Rattle.jac_rows.specs.declared.state.State.{State}
 use Rattle.jac_rows.specs.Tables.{rows_of}
 use Rattle.jac_keep.specs.Records.{alternatives}
 use Rattle.jac_sql_spec.specs.Founding.{IsNumberAsked, IsFrom, HasNumber}
-use Rattle.jac_sql_spec.specs.Reading.{Each, AreShown, IsModelRow, IsRecordRow}
-use Rattle.jac_sql_spec.specs.Statements.{SqlStatement, reading, model_reading, record_reading}
+use Rattle.jac_sql_spec.specs.Reading.{Each, AreShown, IsRecordRow}
+use Rattle.jac_sql_spec.specs.Statements.{SqlStatement, reading, record_reading}
 use Rattle.jac_sql_spec.specs.Tables.{two_tables}
 use Rattle.jac_sql_spec.specs.Telling.{IsAllCommitted, StaysCommitted, ReadsTold}
 use Rattle.jac_sql_spec.specs.Told.{told}
-use Rattle.jac_sql_spec.proofs.Exact.{number_exact, model_exact, record_exact}
+use Rattle.jac_sql_spec.proofs.Exact.{number_exact, record_exact}
 use Rattle.jac_sql_spec.proofs.Sound.{kept_if_sound}
 use Rattle.jac_sql_spec.proofs.Stays.{Stays, clean_if_open, fails_stays, shown_open, shown_same, row_open, row_stays, kept_by, left_by}
-use Rattle.jac_sql_spec.proofs.Texts.{number_plain, model_plain, record_plain}
+use Rattle.jac_sql_spec.proofs.Texts.{number_plain, record_plain}
 
 -- rows of a query whose text changes nothing
 module _ {S V : Type 0} (items : V → List Values) (g : Ghosts S) (models : ℕ) (question : SqlStatement) (Is : Values → Row → Type 0) (Exact : State → List Row → Type 0) (old new : Held S) (answer : Result V Error)
@@ -66,16 +66,6 @@ module _ {S V : Type 0} (items : V → List Values) (g : Ghosts S) (models : ℕ
   }
 
 module _ {S V : Type 0} (items : V → List Values) (g : Ghosts S) (models : ℕ) (old new : Held S) (answer : Result V Error) (law : (state g new).is_clean ≡ false → (state g new).is_open ≡ false) (kinds : List Kind) (r : Result (List Row) Error) where
-  pub model_told : (model : ℕ)
-      → (HasCleanDisk (state g new) → IfOk answer (λ v. Shown (model_reading model).text (model_reading model).params (state g old) (state g new) (items v)))
-      → (HasCleanDisk (state g new) → IfErr answer (FailsToQuery (model_reading model).text (model_reading model).params (state g old) (state g new)))
-      → IfOk answer (λ v. IfOk r (Each (IsModelRow model kinds) (items v))) → IfErr answer (λ e. r ≡ Err e) → IsAllCommitted models (state g old)
-      → ReadsTold g (λ s rows. rows ≡ rows_of s.tables model) models old new r
-  unfolding model_reading
-  model_told model ok err each none was =
-      rows_told items g models (model_reading model) (IsModelRow model kinds) (λ s rows. rows ≡ rows_of s.tables model) old new answer model_plain.0 law ok err was r each none
-      (λ before rows are. let it = was.told_by before in model_exact g it.schema old new (told models (state g old).now) it.stands (kept_if_sound _ it.sound) it.spelled model kinds rows are)
-
   pub record_told : (id : ℕ) → id < 2 ^ 128
       → (HasCleanDisk (state g new) → IfOk answer (λ v. Shown (record_reading id).text (record_reading id).params (state g old) (state g new) (items v)))
       → (HasCleanDisk (state g new) → IfErr answer (FailsToQuery (record_reading id).text (record_reading id).params (state g old) (state g new)))

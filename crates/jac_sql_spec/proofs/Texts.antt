@@ -9,7 +9,7 @@ use Rattle.sqlite.specs.Query.{Query, inner, end}
 use Rattle.sqlite.specs.Schema.{Schema}
 use Rattle.sqlite.specs.Source.TheVariants.{Values}
 use Rattle.sqlite.specs.Command.TheVariants.{Insert, Select, Update, Delete}
-use Rattle.sqlite_sql.specs.declared.ops.BinaryOp.TheVariants.{Compare, Coalesce}
+use Rattle.sqlite_sql.specs.declared.ops.BinaryOp.TheVariants.{Compare}
 use Rattle.sqlite_sql.specs.declared.ops.CompareOp.TheVariants.{Eq}
 use Rattle.sqlite_tied.specs.Compute.{everything}
 use Rattle.sqlite.specs.Listing.{understood, reads_listing}
@@ -68,11 +68,7 @@ abbrev pub reshape_text : List ℕ
 reshape_text = codes "UPDATE meta SET number = ?1, schema = ?2 WHERE k = 0"
 
 abbrev pub all_text : List ℕ
-all_text = codes "SELECT model, jid, alt, jvars, body, rowid FROM rec ORDER BY +model, jid, alt"
-
--- by a value that the index doesn't have
-abbrev pub by_value : ℕ → Term × Key
-by_value place = (op2 Coalesce (col 1 place) (lit Null), ascending Binary)
+all_text = codes "SELECT model, jid, alt, jvars, body, rowid FROM rec ORDER BY model, jid, alt"
 
 pub model_is : command_of (understood (two_tables 0 1 2) model_text) ≡ Select (record { lets = []; body = over 1 (is (col 1 1) (col 0 0) ∷ []) (col 1 2 ∷ col 1 4 ∷ col 1 5 ∷ []) (by 2 ∷ by 3 ∷ []) }) (codes "jid" ∷ codes "jvars" ∷ codes "body" ∷ [])
 unfolding understood everything
@@ -109,7 +105,7 @@ unfolding understood everything
 reshape_is = refl
 
 pub all_is : command_of (understood (two_tables 0 1 2) all_text)
-    ≡ Select (record { lets = []; body = over 1 [] (col 1 1 ∷ col 1 2 ∷ col 1 3 ∷ col 1 4 ∷ col 1 5 ∷ col 1 0 ∷ []) (by_value 1 ∷ by 2 ∷ by 3 ∷ []) })
+    ≡ Select (record { lets = []; body = over 1 [] (col 1 1 ∷ col 1 2 ∷ col 1 3 ∷ col 1 4 ∷ col 1 5 ∷ col 1 0 ∷ []) (by 1 ∷ by 2 ∷ by 3 ∷ []) })
     (codes "model" ∷ codes "jid" ∷ codes "alt" ∷ codes "jvars" ∷ codes "body" ∷ codes "rowid" ∷ [])
 unfolding understood everything
 all_is = refl

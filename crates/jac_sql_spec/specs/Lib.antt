@@ -6,6 +6,7 @@ pub mod Reading
 pub mod Spelled
 pub mod Stands
 pub mod Statements
+pub mod Streams
 pub mod Tables
 pub mod Telling
 pub mod Testing

@@ -37,13 +37,13 @@ founding schema =
 unfoldable pub reading : List ℕ
 reading = codes "SELECT number, schema FROM meta WHERE k = 0"
 
--- what is asked for the keys of meta, and for all rows of rec; by the plus the rows are sorted, and
--- aren't looked up one by one in the order of the index
+-- what is asked for the keys of meta, and for all rows of rec, in the order of the index, so that
+-- one after another can be looked up
 unfoldable pub key_reading : List ℕ
 key_reading = codes "SELECT k FROM meta"
 
 unfoldable pub all_reading : List ℕ
-all_reading = codes "SELECT model, jid, alt, jvars, body, rowid FROM rec ORDER BY +model, jid, alt"
+all_reading = codes "SELECT model, jid, alt, jvars, body, rowid FROM rec ORDER BY model, jid, alt"
 
 -- what is asked for the rows of a model, and for those of a record
 unfoldable pub model_reading : ℕ → SqlStatement

@@ -7,4 +7,3 @@ pub mod Reopens
 pub mod Rows
 pub mod Steps
 pub mod Ordered
-pub mod Rowids

@@ -1,10 +1,12 @@
 -- Rows that an earlier run stored, one after another.
-use Rattle.std.proofs.Common.{◌≡◌, refl, sym, ap, subst, ◌∙◌, ℕ, zero, suc, ◌+◌, ◌<◌, ◌≤◌, Bool, true, false, not, ◌&&◌, ◌||◌, ◌==◌, List, [], ◌∷◌, ◌++◌, length, get_or, Option, Some, None, IsSomeAnd, slice_get, unwrap_or, Result, Ok, Err, IfOk, OnOk, OnErr, IsErr, pos, arith}
+use Rattle.std.proofs.Common.{◌≡◌, refl, sym, ap, subst, ◌∙◌, ℕ, zero, suc, ◌+◌, ◌<◌, ◌≤◌, Bool, true, false, not, ◌&&◌, ◌||◌, ◌==◌, ℤ, List, [], ◌∷◌, ◌++◌, map, length, drop, get_or, append-nil, length-append, Option, Some, None, IsSomeAnd, slice_get, unwrap_or, Result, Ok, Err, IfOk, OnOk, OnErr, IsErr, pos, arith}
 use Rattle.std.specs.List.{AllByRecursion}
 use Rattle.std.specs.Bool.{beq}
 use Rattle.std.specs.Prelude.{nat_lt, nat_le, ◌/◌, ◌%◌, ◌^◌}
 use Rattle.std.proofs.lemmas.Bool.Decides.{nat_tests}
 use Rattle.std.proofs.lemmas.Bool.{and_parts}
+use Rattle.std.proofs.lemmas.List.{map-append, drop_all}
+use Rattle.std.proofs.Math.Seq.{drop-append_seam, get_or-append_seam}
 use Rattle.sqlite_value.specs.Order.{Row as Values, column}
 use Rattle.sqlite_value.specs.declared.value.Value.TheVariants.{Int, Blob}
 use Rattle.sqlite_trees.specs.declared.store.Store.{Ghosts}
@@ -20,21 +22,15 @@ use Rattle.jac_row_codec.specs.Faults.{IsIdOf}
 use Rattle.jac_row_codec.specs.Spelling.{guard_bytes}
 use Rattle.jac_keep.specs.Schema.{shapes_by}
 use Rattle.jac_sqlkeep.specs.Alternatives.{AreTaken, ReadsOnWith}
+use Rattle.jac_sqlkeep.specs.Lines.{NoneComesTwice, AreLinesRead}
+use Rattle.jac_sql_spec.specs.Facts.{facts}
+use Rattle.jac_sql_spec.specs.Statements.{all_reading}
 use Rattle.jac_sql_spec.specs.Reading.{IsRowIn}
 use Rattle.jac_sql_spec.specs.Founding.{IsNumberAsked}
-use Rattle.jac_sql_spec.specs.Testing.{MovesOn, ReadsOn, IsStoredRow, AreLinesOf, ShowsLines, ShowsStored}
+use Rattle.jac_sql_spec.specs.Testing.{fact_shown, IsLineShown, MovesOn, ReadsOn, IsStoredRow, AreLinesOf, ShowsLines, ShowsStored}
 use Rattle.jac_sql_spec.proofs.Gathered.{Gathered, gathered_start, gathered_next, gathered_end}
 use Rattle.jac_sql_spec.proofs.Reopened.{stored_shown}
 use Rattle.jac_sql_spec.proofs.Sound.{narrow_cells, id_room}
-
--- what a question showed, where the rows passed two tests
-pub tested : {V E Q : Type 0} (old new : Sql) (text : List ℕ) (items : V → List Values) (P R : List Values → Type 0) → ((found : List Values) → Shown text [] old new found → P found → R found → Q)
-    → (answer : Result V Error) (r : Result (Unit {0}) E) → IfOk answer (λ v. Shown text [] old new (items v)) → IfOk answer (λ v. OnOk r (P (items v))) → IfOk answer (λ v. OnOk r (R (items v))) → OnErr answer (IsErr r)
-    → OnOk r Q
-tested old new text items P R whole (Ok v) (Ok done) shown passed also failed = whole (items v) shown passed also
-tested old new text items P R whole (Ok v) (Err e) shown passed also failed = tt
-tested old new text items P R whole (Err e) (Ok done) shown passed also failed = absurd (let f : false ≡ true = failed in cc)
-tested old new text items P R whole (Err e) (Err f) shown passed also failed = tt
 
 pub ok_then : {T E : Type 0} (P Q : T → Type 0) (r : Result T E) → IfOk r P → ((t : T) → P t → Q t) → IfOk r Q
 ok_then P Q (Ok t) p then = then t p
@@ -144,6 +140,74 @@ module _ (shapes : List ModelShape) (number : ℕ) (found : List Values) where
 
   pub read_end : (at model id : ℕ) (guards : List (List (ℕ × Bool))) (in_order : Bool) → length found ≤ at → GatheredWith at model id guards in_order → AreLinesOf shapes number found
   read_end at model id guards in_order behind so = gathered_end shapes number found at model id so.all behind so.gathered
+
+-- ---- one row after another, as they are shown
+
+all_ends : {X : Type 0} (P : X → Type 0) (xs : List X) (x : X) → AllByRecursion P xs → P x → AllByRecursion P (xs ++ x ∷ [])
+all_ends P [] x all is = (is, tt)
+all_ends P (y ∷ ys) x all is = (all.0, all_ends P ys x all.1 is)
+
+-- one row more is at hand, and not read yet
+longer : (shapes : List ModelShape) (number : ℕ) (found : List Values) (v : Values) (model id : ℕ) (guards : List (List (ℕ × Bool))) → Gathered shapes number found (length found) model id guards
+    → Gathered shapes number (found ++ v ∷ []) (length found) model id guards
+longer shapes number found v model id guards so =
+    let behind : drop (length found) (found ++ v ∷ []) ≡ v ∷ [] = drop-append_seam found (v ∷ []) in
+    let none : drop (length found) found ≡ [] = drop_all (length found) found (omega arith) in
+    let before : facts so.tables ≡ map fact_shown found = sym (append-nil (facts so.tables)) ∙ ap (λ vs. facts so.tables ++ map fact_shown vs) (sym none) ∙ so.read in
+    record {
+      tables = so.tables;
+      long = so.long;
+      good = so.good;
+      spelled = so.spelled;
+      read = ap (λ vs. facts so.tables ++ map fact_shown vs) behind ∙ ap (λ fs. fs ++ map fact_shown (v ∷ [])) before ∙ sym (map-append fact_shown found (v ∷ []));
+      lines = λ all.
+          let own = subst (AllByRecursion (λ x. IsLineShown x (fact_shown x))) behind all in
+          all_ends (λ x. IsLineShown x (fact_shown x)) found v (so.lines (subst (AllByRecursion (λ x. IsLineShown x (fact_shown x))) (sym none) tt)) own.0;
+      behind = so.behind;
+      below = so.below;
+      last = so.last;
+    }
+
+module _ (shapes : List ModelShape) (number : ℕ) where
+  -- the rows that were shown, with what is kept of the alternatives of the last record, and their rowids
+  pub record LinesTo (found : List Values) (model id : ℕ) (guards : List (List (ℕ × Bool))) (in_order : Bool) (rowids : List ℤ) : Type 0 where
+    pub gathered : GatheredWith shapes number found (length found) model id guards in_order
+    pub shown : map (λ v. column v 5) found ≡ map Int rowids
+
+  pub lines_start : (guards : List (List (ℕ × Bool))) (in_order : Bool) → IsNext number → AreTaken [] guards in_order → LinesTo [] 0 0 guards in_order []
+  lines_start guards in_order next kept = record { gathered = read_start shapes number [] guards in_order next kept; shown = refl }
+
+  pub lines_next : (found : List Values) (model id : ℕ) (guards : List (List (ℕ × Bool))) (in_order : Bool) (rowids : List ℤ) (v : Values) (at : ℤ) (next_model next_id : ℕ) (next_guards : List (List (ℕ × Bool))) (also : Bool)
+      → column v 5 ≡ Int at → ((all : List (List (ℕ × Bool))) → AreTaken all guards in_order → ReadsOnWith shapes number model id all v next_model next_id next_guards also)
+      → LinesTo found model id guards in_order rowids → LinesTo (found ++ v ∷ []) next_model next_id next_guards also (rowids ++ at ∷ [])
+  lines_next found model id guards in_order rowids v at next_model next_id next_guards also shown on so =
+      let whole = found ++ v ∷ [] in
+      let long : length whole ≡ length found + 1 = length-append found (v ∷ []) in
+      let on_hand : GatheredWith shapes number whole (length found) model id guards in_order = record {
+        all = so.gathered.all;
+        gathered = longer shapes number found v model id so.gathered.all so.gathered.gathered;
+        kept = so.gathered.kept;
+      } in
+      record {
+        gathered = subst (λ n. GatheredWith shapes number whole n next_model next_id next_guards also) (sym long)
+            (read_next shapes number whole (length found) model id guards in_order v next_model next_id next_guards also (omega (arith, long)) (sym (get_or-append_seam found v [] v)) on on_hand);
+        shown = map-append (λ v. column v 5) found (v ∷ []) ∙ ap (λ l. l ++ column v 5 ∷ []) so.shown ∙ ap (λ x. map Int rowids ++ x ∷ []) shown ∙ sym (map-append Int rowids (at ∷ []));
+      }
+
+  pub lines_end : (found : List Values) (model id : ℕ) (guards : List (List (ℕ × Bool))) (in_order : Bool) (rowids : List ℤ) → LinesTo found model id guards in_order rowids → AreLinesRead shapes number found rowids
+  lines_end found model id guards in_order rowids so = record { shown = so.shown; are = read_end shapes number found (length found) model id guards in_order (omega arith) so.gathered }
+
+-- all rows, where no rowid comes twice
+pub lines_apart : {S V E : Type 0} (items : V → List ℤ) (g : Ghosts S) (shapes : List ModelShape) (number : ℕ) (old new : Held S) (read : Result V E) (r : Result (Unit {0}) E)
+    → IfOk read (λ v. (found : List Values) × Shown all_reading [] (state g old) (state g new) found × AreLinesRead shapes number found (items v)) → OnOk r (IfOk read (λ v. NoneComesTwice (items v))) → OnErr read (IsErr r) → OnOk r (ShowsLines g shapes number old new)
+lines_apart items g shapes number old new (Ok v) (Ok done) it apart failed = record {
+  found = it.0;
+  shown = it.1;
+  rowids = record { rowids = items v; shown = it.2.shown; rising = apart.rising; moved = apart.moved; are = apart.are };
+  are = it.2.are;
+}
+lines_apart items g shapes number old new (Err e) (Ok done) it apart failed = absurd (let f : false ≡ true = failed in cc)
+lines_apart items g shapes number old new read (Err e) it apart failed = tt
 
 -- ---- the whole store
 

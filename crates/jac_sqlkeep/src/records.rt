@@ -15,8 +15,9 @@ ghost use Rattle.jac_keep.specs.Alterations.{ArePlaced};
 ghost use Rattle.jac_keep.specs.Records.{alternatives};
 ghost use Rattle.jac_sql_spec.specs.Lasting.{ConnectionLasts};
 ghost use Rattle.jac_sql_spec.specs.Reading.{AreShown, Each, IsModelRow, IsRecordRow, IsRowIn};
-ghost use Rattle.jac_sql_spec.specs.Statements.{model_reading, record_reading, removal, addition, replacement, replacements, statements_with};
+ghost use Rattle.jac_sql_spec.specs.Statements.{SqlStatement, model_reading, record_reading, removal, addition, replacement, replacements, statements_with};
 ghost use Rattle.jac_sql_spec.specs.Stands.{AreNarrow};
+ghost use Rattle.jac_sql_spec.specs.Streams.{AreNone, ReadsThrough, StepsTo, Streams};
 ghost use Rattle.jac_sql_spec.specs.Telling.{IsAllCommitted, ReadsTold, CanAllBeSpelled, CanBeStored};
 ghost use Rattle.jac_sql_spec.specs.Transaction.{Inside, Transacts, EndsCommitted};
 
@@ -28,7 +29,9 @@ use jac_row_codec::{RowFault, Stored, decode_id, decode_row, encode_id, encode_r
 use jac_rows::{Row, Rows};
 use jac_value::{Id, Kind, Memory, Txt, id_model};
 use sqlite::types::ValueRef;
-use sqlite::{Alter, Connection, Error, ErrorCode, Row as Found, Transaction, params};
+use sqlite::{
+    Alter, Connection, Error, ErrorCode, Row as Found, Rows as Showing, Transaction, params,
+};
 use std::alloc::Global;
 
 const READ_MODEL: &str = "SELECT jid, jvars, body FROM rec WHERE model = ?1 ORDER BY jid, alt";
@@ -40,7 +43,6 @@ const REMOVE: &str = "DELETE FROM rec WHERE model = ?1 AND jid = ?2";
 const ADD: &str = "INSERT INTO rec(model, jid, alt, jvars, body) VALUES(?1, ?2, ?3, ?4, ?5)";
 
 /// All rows of the model, by rising id.
-#[tactic(auto, unfolding(jac_sql_spec::specs::Statements::model_reading))]
 pub fn read_model<S: Alter>(
     alloc: Global,
     conn: &mut Connection<S>,
@@ -58,8 +60,7 @@ pub fn read_model<S: Alter>(
         → IsTrue (state S.Store conn.old).is_open }
     ensures mode { conn.old.in_transaction ≡ false → conn.new.in_transaction ≡ false }
 {
-    let found = conn.query_all(READ_MODEL, params![u32::from(model)]);
-    model_found(alloc, found, model, kinds)
+    model_rows(alloc, conn, model, kinds)
 }
 
 /// The alternatives of the record.
@@ -87,22 +88,6 @@ pub fn read_record<S: Alter>(
     record_found(alloc, found, id, kinds)
 }
 
-fn model_found(
-    alloc: Global,
-    found: Result<Vec<Found>, Error>,
-    model: u8,
-    kinds: &[Kind],
-) -> Result<Rows, Error>
-    ensures each { IfOk found (λ found. IfOk result (Each (IsModelRow model kinds.now)
-        found.items)) }
-    ensures none { IfErr found (λ error. result ≡ Err error) }
-{
-    match found {
-        Ok(found) => rows_of_model(alloc, found.as_slice(), model, kinds),
-        Err(error) => Err(error),
-    }
-}
-
 fn record_found(
     alloc: Global,
     found: Result<Vec<Found>, Error>,
@@ -119,15 +104,74 @@ fn record_found(
     }
 }
 
-#[tactic(auto, using(crate::proofs::Read::each_start, crate::proofs::Read::each_next, crate::proofs::Read::each_end))]
-fn rows_of_model(alloc: Global, found: &[Found], model: u8, kinds: &[Kind]) -> Result<Rows, Error>
-    ensures { IfOk result (Each (IsModelRow model kinds.now) found.now) }
+// All rows of the model, as far as they can be read.
+#[tactic(auto, unfolding(jac_sql_spec::specs::Statements::model_reading))]
+fn model_rows<S: Alter>(
+    alloc: Global,
+    conn: &mut Connection<S>,
+    model: u8,
+    kinds: &[Kind],
+) -> Result<Rows, Error>
+    ensures reads { ReadsThrough S.Store (model_reading model) (Each (IsModelRow model kinds.now))
+        conn.old conn.new result }
+    ensures mode { conn.old.in_transaction ≡ false → conn.new.in_transaction ≡ false }
 {
-    let mut rows = Vec::new(alloc);
-    'found: for values in found {
-        rows.push(row_of_model(alloc, values, model, kinds)?)?;
+    match conn.query(READ_MODEL, params![u32::from(model)]) {
+        Ok(showing) => {
+            let mut showing = showing;
+            rows_shown(alloc, &mut showing, model, kinds)
+        }
+        Err(error) => Err(error),
     }
-    Ok(Rows::from_vec(rows))
+}
+
+// The rows are made one after another, so that all that the database shows of them is never held
+// beside them.
+fn rows_shown<S: Alter>(
+    alloc: Global,
+    showing: &mut Showing<'_, S>,
+    model: u8,
+    kinds: &[Kind],
+) -> Result<Rows, Error>
+    ensures same { showing.new.conn.ghost_name ≡ showing.old.conn.ghost_name }
+    ensures reads { (question : SqlStatement) (first : _)
+        → Streams S.Store question AreNone first showing.old.conn.now
+        → ReadsThrough S.Store question (Each (IsModelRow model kinds.now)) first
+        showing.new.conn.now result }
+    ensures mode { showing.old.conn.now.in_transaction ≡ false
+        → showing.new.conn.now.in_transaction ≡ false }
+{
+    let mut made = Vec::new(alloc);
+    'rows: for _ in 0..u64::MAX {
+        match next_of_model(alloc, showing, model, kinds)? {
+            Some(row) => made.push(row)?,
+            None => return Ok(Rows::from_vec(made)),
+        }
+    }
+    Err(NO_MEMORY)
+}
+
+// The next row of the model that is shown, if there is one.
+fn next_of_model<S: Alter>(
+    alloc: Global,
+    showing: &mut Showing<'_, S>,
+    model: u8,
+    kinds: &[Kind],
+) -> Result<Option<Row>, Error>
+    ensures same { showing.new.conn.ghost_name ≡ showing.old.conn.ghost_name }
+    ensures steps { HasCleanDisk (state S.Store showing.new.conn.now)
+        → StepsTo S.Store (IsModelRow model kinds.now) showing.old.conn.now showing.new.conn.now
+        result }
+    ensures lasts { ConnectionLasts (state S.Store showing.old.conn.now)
+        (state S.Store showing.new.conn.now) }
+    ensures mode { showing.old.conn.now.in_transaction ≡ false
+        → showing.new.conn.now.in_transaction ≡ false }
+{
+    showing.advance()?;
+    match showing.get() {
+        Some(values) => Ok(Some(row_of_model(alloc, values, model, kinds)?)),
+        None => Ok(None),
+    }
 }
 
 #[tactic(auto, using(crate::proofs::Read::each_start, crate::proofs::Read::each_next, crate::proofs::Read::each_end))]

@@ -1,5 +1,5 @@
 //! A store that an earlier run made: all of it is read and tested before it is told.
-ghost use Rattle.std.specs.Prelude.{◌≡◌, ◌<◌, ◌++◌, ◌∷◌, [], ℕ, Bool, List, pos, length, None, true, false, map, IfOk, OnOk, OnErr, IsErr};
+ghost use Rattle.std.specs.Prelude.{◌≡◌, ◌<◌, ◌++◌, ◌∷◌, [], ℕ, Bool, List, pos, length, None, true, false, IfOk, OnOk, OnErr, IsErr};
 ghost use Rattle.std.specs.List.{AllByRecursion};
 ghost use Rattle.std.specs.List.Sorted.{IsPermutation};
 ghost use Rattle.sqlite_value.specs.Order.{column};
@@ -11,8 +11,11 @@ ghost use Rattle.jac_world.specs.World.{IsApart};
 ghost use Rattle.jac_rows.specs.Good.{IsNext};
 ghost use Rattle.jac_keep.specs.Schema.{shapes_by};
 ghost use Rattle.jac_sqlkeep.specs.Alternatives.{AreTaken, MovesOnWith, ReadsOnWith};
+ghost use Rattle.jac_sqlkeep.specs.Lines.{NoneComesTwice, AreLinesRead, ReadsLine};
 ghost use Rattle.jac_sql_spec.specs.Lasting.{ConnectionLasts, LeavesStoredTables};
-ghost use Rattle.jac_sql_spec.specs.Testing.{IsAbove, AreAbove, AreRowidsApart, IsStoredRow, AreLinesOf, ShowsLines, ShowsStored};
+ghost use Rattle.jac_sql_spec.specs.Statements.{SqlStatement, all_reading};
+ghost use Rattle.jac_sql_spec.specs.Streams.{AreNone, ReadsThrough, StepsTo, Streams};
+ghost use Rattle.jac_sql_spec.specs.Testing.{IsAbove, AreAbove, IsStoredRow, ShowsLines, ShowsStored};
 
 use crate::alternatives::Alternatives;
 use crate::cause::{CORRUPT, NO_MEMORY, Unfit};
@@ -23,10 +26,10 @@ use jac_row_codec::decode_id;
 use jac_rows::{Row, Shape};
 use jac_value::{Id, Memory, is_narrow_id};
 use sqlite::types::ValueRef;
-use sqlite::{Alter, Connection, Error, Row as Found};
+use sqlite::{Alter, Connection, Error, Row as Found, Rows as Showing};
 use std::alloc::Global;
 
-const ALL: &str = "SELECT model, jid, alt, jvars, body, rowid FROM rec ORDER BY +model, jid, alt";
+const ALL: &str = "SELECT model, jid, alt, jvars, body, rowid FROM rec ORDER BY model, jid, alt";
 
 /// Tests that the number and the rows are those of a state of this shape.
 pub fn test_stored<S: Alter>(
@@ -49,7 +52,6 @@ pub fn test_stored<S: Alter>(
 }
 
 /// Tests that the rows are those of tables of this shape, and that no rowid comes twice.
-#[tactic(auto, unfolding(jac_sql_spec::specs::Statements::all_reading))]
 pub fn test_rows<S: Alter>(
     alloc: Global,
     conn: &mut Connection<S>,
@@ -64,62 +66,138 @@ pub fn test_rows<S: Alter>(
     ensures lasts { ConnectionLasts (state S.Store conn.old) (state S.Store conn.new) }
     ensures mode { conn.old.in_transaction ≡ false → conn.new.in_transaction ≡ false }
 {
-    let found = conn.query_all(ALL, &[]);
-    rows_found(alloc, found, shape, number)
+    let rowids = read_lines(alloc, conn, shape, number);
+    test_rowids(rowids)
 }
 
-fn rows_found(
+// Reads all rows, as far as they are those of tables of this shape, and gives their rowids.
+#[tactic(auto, unfolding(jac_sql_spec::specs::Statements::all_reading))]
+fn read_lines<S: Alter>(
     alloc: Global,
-    found: Result<Vec<Found>, Error>,
+    conn: &mut Connection<S>,
     shape: &Shape,
     number: u64,
-) -> Result<(), Unfit>
+) -> Result<Vec<i64>, Unfit>
     requires { IsNext number }
-    ensures apart { IfOk found (λ found. OnOk result (AreRowidsApart found.items)) }
-    ensures are { IfOk found
-        (λ found. OnOk result (AreLinesOf (shapes_by shape.now.kinds shape.now.nested) number
-        found.items)) }
-    ensures none { OnErr found (IsErr result) }
+    ensures reads { ReadsThrough S.Store (record { text = all_reading; params = [] })
+        (λ found rowids. AreLinesRead (shapes_by shape.now.kinds shape.now.nested) number
+        found rowids.items) conn.old conn.new result }
+    ensures mode { conn.old.in_transaction ≡ false → conn.new.in_transaction ≡ false }
 {
-    match found {
-        Ok(found) => {
-            test_rowids(alloc, found.as_slice())?;
-            read_all(alloc, found.as_slice(), shape, number)
+    match conn.query(ALL, &[]) {
+        Ok(showing) => {
+            let mut showing = showing;
+            lines_shown(alloc, &mut showing, shape, number)
         }
         Err(error) => Err(Unfit::Refused(error)),
     }
 }
 
-// Tests that no rowid comes twice.
-fn test_rowids(alloc: Global, found: &[Found]) -> Result<(), Unfit>
-    ensures { OnOk result (AreRowidsApart found.now) }
+// Each row is tested as it is shown, and let go then, so that they are never held together.
+fn lines_shown<S: Alter>(
+    alloc: Global,
+    showing: &mut Showing<'_, S>,
+    shape: &Shape,
+    number: u64,
+) -> Result<Vec<i64>, Unfit>
+    requires { IsNext number }
+    ensures same { showing.new.conn.ghost_name ≡ showing.old.conn.ghost_name }
+    ensures reads { (question : SqlStatement) (first : _)
+        → Streams S.Store question AreNone first showing.old.conn.now
+        → ReadsThrough S.Store question (λ found rowids. AreLinesRead
+        (shapes_by shape.now.kinds shape.now.nested) number found rowids.items) first
+        showing.new.conn.now result }
+    ensures mode { showing.old.conn.now.in_transaction ≡ false
+        → showing.new.conn.now.in_transaction ≡ false }
 {
-    let rowids = rowids_of(alloc, found)?;
-    let rising = in_order(rowids)?;
+    let mut last = new_record(alloc, 0, Id(0));
+    let mut rowids = Vec::new(alloc);
+    'rows: for at in 0..usize::MAX {
+        match next_line(alloc, showing, shape, number, last) {
+            Ok(Some(line)) => {
+                rowids = with_rowid(rowids, line.rowid)?;
+                last = line.last;
+            }
+            Ok(None) => return Ok(rowids),
+            Err(error) => return Err(unfit_row(error, at)),
+        }
+    }
+    Err(Unfit::Refused(NO_MEMORY))
+}
+
+fn with_rowid(rowids: Vec<i64>, rowid: i64) -> Result<Vec<i64>, Unfit>
+    ensures { IfOk result (λ next. next.items ≡ rowids.items ++ rowid ∷ []) }
+{
+    let mut rowids = rowids;
+    match rowids.push(rowid) {
+        Ok(()) => Ok(rowids),
+        Err(_) => Err(Unfit::Refused(NO_MEMORY)),
+    }
+}
+
+// Reads the next row that is shown, if there is one, after those that were read.
+fn next_line<S: Alter>(
+    alloc: Global,
+    showing: &mut Showing<'_, S>,
+    shape: &Shape,
+    number: u64,
+    last: Last,
+) -> Result<Option<Line>, Error>
+    ensures same { showing.new.conn.ghost_name ≡ showing.old.conn.ghost_name }
+    ensures steps { HasCleanDisk (state S.Store showing.new.conn.now)
+        → StepsTo S.Store (λ v line. ReadsLine (shapes_by shape.now.kinds shape.now.nested) number
+        last.model last.id last.guards.guards.items last.guards.in_order v line.last.model
+        line.last.id line.last.guards.guards.items line.last.guards.in_order line.rowid)
+        showing.old.conn.now showing.new.conn.now result }
+    ensures lasts { ConnectionLasts (state S.Store showing.old.conn.now)
+        (state S.Store showing.new.conn.now) }
+    ensures mode { showing.old.conn.now.in_transaction ≡ false
+        → showing.new.conn.now.in_transaction ≡ false }
+{
+    showing.advance()?;
+    match showing.get() {
+        Some(values) => Ok(Some(line_of(alloc, shape, number, last, values)?)),
+        None => Ok(None),
+    }
+}
+
+// Reads the row after those that were read.
+fn line_of(
+    alloc: Global,
+    shape: &Shape,
+    number: u64,
+    last: Last,
+    values: &Found,
+) -> Result<Line, Error>
+    ensures { IfOk result (λ line. ReadsLine (shapes_by shape.now.kinds shape.now.nested) number
+        last.model last.id last.guards.guards.items last.guards.in_order values.now line.last.model
+        line.last.id line.last.guards.guards.items line.last.guards.in_order line.rowid) }
+{
+    let rowid = rowid_of(values)?;
+    let next = read_on(alloc, shape, number, last, values)?;
+    Ok(Line { last: next, rowid })
+}
+
+fn rowid_of(values: &Found) -> Result<i64, Error>
+    ensures { IfOk result (λ at. column values.now 5 ≡ Int at) }
+{
+    match values.get_ref(5) {
+        Ok(ValueRef::Int(at)) => Ok(at),
+        _ => Err(CORRUPT),
+    }
+}
+
+// Tests that no rowid comes twice, of those that were read.
+fn test_rowids(read: Result<Vec<i64>, Unfit>) -> Result<(), Unfit>
+    ensures apart { OnOk result (IfOk read (λ rowids. NoneComesTwice rowids.items)) }
+    ensures none { OnErr read (IsErr result) }
+{
+    let rising = in_order(read?)?;
     if are_rising(rising.as_slice()) {
         Ok(())
     } else {
         Err(Unfit::Form)
     }
-}
-
-#[tactic(auto, using(crate::proofs::Rowids::rowids_next, crate::proofs::Rowids::rowids_end))]
-fn rowids_of(alloc: Global, found: &[Found]) -> Result<Vec<i64>, Unfit>
-    ensures { IfOk result (λ rowids. map (λ v. column v 5) found.now ≡ map Int rowids.items) }
-{
-    let mut rowids = Vec::new(alloc);
-    let mut rest = found;
-    'found: while let Some((values, more)) = rest.split_first() {
-        let Ok(ValueRef::Int(at)) = values.get_ref(5) else {
-            return Err(Unfit::Form);
-        };
-        match rowids.push(at) {
-            Ok(()) => {}
-            Err(_) => return Err(Unfit::Refused(NO_MEMORY)),
-        }
-        rest = more;
-    }
-    Ok(rowids)
 }
 
 fn in_order(rowids: Vec<i64>) -> Result<Vec<i64>, Unfit>
@@ -164,24 +242,11 @@ struct Last {
     guards: Alternatives,
 }
 
-#[tactic(auto, using(crate::proofs::Rows::read_start, crate::proofs::Rows::read_next, crate::proofs::Rows::read_end))]
-fn read_all(alloc: Global, found: &[Found], shape: &Shape, number: u64) -> Result<(), Unfit>
-    requires { IsNext number }
-    ensures { OnOk result (AreLinesOf (shapes_by shape.now.kinds shape.now.nested) number
-        found.now) }
-{
-    let mut last = Last {
-        model: 0,
-        id: Id(0),
-        guards: Alternatives::none(alloc),
-    };
-    'found: for at in 0..found.len() {
-        last = match read_on(alloc, shape, number, last, &found[at]) {
-            Ok(next) => next,
-            Err(error) => return Err(unfit_row(error, at)),
-        };
-    }
-    Ok(())
+// The record up to a row that was read, and the rowid of the row.
+#[derive(Drop)]
+struct Line {
+    last: Last,
+    rowid: i64,
 }
 
 fn unfit_row(error: Error, at: usize) -> Unfit {

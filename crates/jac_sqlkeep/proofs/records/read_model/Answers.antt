@@ -1,32 +1,19 @@
-use Rattle.jac_sql_spec.specs.Reading.{IsModelRow}
+use Rattle.jac_sql_spec.specs.Reading.{Each, IsModelRow}
 use Rattle.jac_sql_spec.specs.Statements.{model_reading}
-use Rattle.jac_sql_spec.proofs.ReadRows.{model_told}
-use Rattle.jac_sqlkeep.proofs.Read.{are_shown}
-use Rattle.sqlite.specs.Held.{state}
-use Rattle.jac_sql_spec.proofs.Lasting.{lasts_of}
-use Rattle.jac_sqlkeep.proofs.Opened.{opened_by_rows}
+use Rattle.jac_sql_spec.proofs.Streams.{model_through, through_opens, through_shown}
 use Rattle.jac_sqlkeep.proofs.records.read_model.Goals as goal
 
 pub returns-clause-shown : goal.returns-clause-shown
-unfolding model_reading
 returns-clause-shown g c clean =
-    let shown = rw (c.params-to_sql.ensures, c.from.ensures) at (c.query_all-found.ensures.ok clean) in
-    are_shown (λ v. v.items) g.S.Store (model_reading c.args.model) (IsModelRow c.args.model c.args.kinds.now) c.args.conn.now c.query_all-found.new.self c.query_all-found.result c.model_found.result
-    shown c.model_found.ensures.each c.model_found.ensures.none
+    through_shown g.S.Store (model_reading c.args.model) (IsModelRow c.args.model c.args.kinds.now) c.args.conn.now c.model_rows.new.conn c.model_rows.result (c.model_rows.ensures.reads.shown clean)
 
 pub returns-clause-told : goal.returns-clause-told
-unfolding model_reading
 returns-clause-told g c models was =
-    model_told (λ v. v.items) g.S.Store models c.args.conn.now c.query_all-found.new.self c.query_all-found.result (g.met.S.Store.shut_if_dirty c.query_all-found.new.self.store) c.args.kinds.now c.model_found.result
-    c.args.model
-    (rw (c.params-to_sql.ensures, c.from.ensures) at c.query_all-found.ensures.ok)
-    (rw (c.params-to_sql.ensures, c.from.ensures) at c.query_all-found.ensures.err)
-    c.model_found.ensures.each c.model_found.ensures.none was
+    model_through g.S.Store models c.args.model c.args.kinds.now c.args.conn.now c.model_rows.new.conn c.model_rows.result (g.met.S.Store.shut_if_dirty c.model_rows.new.conn.store) c.model_rows.ensures.reads was
 
 pub returns-clause-lasts : goal.returns-clause-lasts
-returns-clause-lasts g c = lasts_of (state g.S.Store c.args.conn.now) (state g.S.Store c.query_all-found.new.self) c.query_all-found.ensures.survives
+returns-clause-lasts g c = c.model_rows.ensures.reads.lasts
 
 pub returns-clause-opens : goal.returns-clause-opens
 returns-clause-opens g c =
-    opened_by_rows (state g.S.Store c.args.conn.now) (state g.S.Store c.query_all-found.new.self) (g.met.S.Store.shut_if_dirty c.query_all-found.new.self.store) (λ v. v.items) _ _ c.query_all-found.result c.query_all-found.ensures.ok
-    c.query_all-found.ensures.err
+    through_opens g.S.Store (model_reading c.args.model) (Each (IsModelRow c.args.model c.args.kinds.now)) c.args.conn.now c.model_rows.new.conn c.model_rows.result (g.met.S.Store.shut_if_dirty c.model_rows.new.conn.store) c.model_rows.ensures.reads

@@ -1,22 +1,19 @@
-use Rattle.sqlite.specs.Held.{state}
+use Rattle.std.proofs.Common.{ℤ, Vec, Global}
 use Rattle.jac_keep.specs.Schema.{shapes_by}
-use Rattle.jac_sql_spec.proofs.Lasting.{lasts_of, all_leave}
-use Rattle.jac_sql_spec.specs.Statements.{all_reading}
-use Rattle.jac_sql_spec.specs.Testing.{AreRowidsApart, AreLinesOf}
-use Rattle.jac_sqlkeep.proofs.Rows.{tested}
+use Rattle.jac_sql_spec.proofs.Streams.{all_through_leaves}
+use Rattle.jac_sqlkeep.specs.Lines.{AreLinesRead}
+use Rattle.jac_sqlkeep.proofs.Rows.{lines_apart}
 use Rattle.jac_sqlkeep.proofs.stored.test_rows.Goals as goal
 
 pub returns-clause-shown : goal.returns-clause-shown
-unfolding all_reading
 returns-clause-shown g c clean =
-    tested (state g.S.Store c.args.conn.now) (state g.S.Store c.query_all-found.new.self) all_reading (λ v. v.items) AreRowidsApart (AreLinesOf (shapes_by c.args.shape.now.kinds c.args.shape.now.nested) c.args.number)
-    (λ found shown apart are. record { found = found; shown = shown; rowids = apart; are = are })
-    c.query_all-found.result c.rows_found.result (c.query_all-found.ensures.ok clean) c.rows_found.ensures.apart c.rows_found.ensures.are c.rows_found.ensures.none
+    lines_apart (λ (v : Vec ℤ Global). v.items) g.S.Store (shapes_by c.args.shape.now.kinds c.args.shape.now.nested) c.args.number c.args.conn.now c.read_lines-rowids.new.conn c.read_lines-rowids.result c.test_rowids.result
+    (c.read_lines-rowids.ensures.reads.shown clean) c.test_rowids.ensures.apart c.test_rowids.ensures.none
 
 pub returns-clause-left : goal.returns-clause-left
-unfolding all_reading
 returns-clause-left g c =
-    all_leave (state g.S.Store c.args.conn.now) (state g.S.Store c.query_all-found.new.self) (g.met.S.Store.shut_if_dirty c.query_all-found.new.self.store) (λ v. v.items) c.query_all-found.result c.query_all-found.ensures.ok c.query_all-found.ensures.err
+    all_through_leaves g.S.Store (λ found (rowids : Vec ℤ Global). AreLinesRead (shapes_by c.args.shape.now.kinds c.args.shape.now.nested) c.args.number found rowids.items) c.args.conn.now c.read_lines-rowids.new.conn c.read_lines-rowids.result
+    (g.met.S.Store.shut_if_dirty c.read_lines-rowids.new.conn.store) c.read_lines-rowids.ensures.reads
 
 pub returns-clause-lasts : goal.returns-clause-lasts
-returns-clause-lasts g c = lasts_of (state g.S.Store c.args.conn.now) (state g.S.Store c.query_all-found.new.self) c.query_all-found.ensures.survives
+returns-clause-lasts g c = c.read_lines-rowids.ensures.reads.lasts
