@@ -19,6 +19,7 @@ use jac_keep::Keeper;
 use jac_rows::{State, Tables};
 use jac_value::{Memory, Txt};
 use jac_world::Steps;
+use std::alloc::Global;
 use std::marker::Brand;
 use std::process::ExitCode;
 use std::sync::ledger::{Blank, Ledger};
@@ -65,7 +66,7 @@ fn run_words<L: Ledger, M: Ledger, O: Outside, F: FileOpens>(
     let mut splits: Steps<L> = Steps::new(blank);
     let mut evaluations: Steps<M> = Steps::new(second);
     let status = run_host(
-        rt,
+        alloc,
         words.as_slice(),
         &mut host,
         &mut vault,
@@ -84,12 +85,13 @@ struct Host<'h, O: Outside> {
     door: HostDoor<'h, O>,
 }
 
-// The run over the host, of which nothing was asked yet. `O` is what is supposed of the outside:
-// where the files that were read and the input that was taken are as it says, each clause holds of
-// the bytes that writes took. `F` opens the store's file, and supposes what it holds: where its
-// bytes are as it says, each clause on what stood there holds of the store that they stand for.
+// The run over the host, of which nothing was asked yet. It reaches the machine by these alone. `O`
+// is what is supposed of the outside: where the files that were read and the input that was taken
+// are as it says, each clause holds of the bytes that writes took. `F` opens the store's file, and
+// supposes what it holds: where its bytes are as it says, each clause on what stood there holds of
+// the store that they stand for.
 fn run_host<O: Outside, F: FileOpens, L: Ledger, M: Ledger>(
-    rt: &HostRuntime,
+    alloc: Global,
     words: &[Txt],
     host: &mut Host<'_, O>,
     vault: &mut HostVault<FileMaker<F>>,
@@ -116,7 +118,7 @@ fn run_host<O: Outside, F: FileOpens, L: Ledger, M: Ledger>(
         (span splits.old splits.new) (span evaluations.old evaluations.new) result) }
 {
     run(
-        rt.alloc(),
+        alloc,
         words,
         &mut host.files,
         &mut host.out,
