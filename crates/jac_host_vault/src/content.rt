@@ -6,9 +6,9 @@ ghost use Rattle.sqlite_wal.specs.Files.{image_at};
 ghost use Rattle.jac_reopen.specs.Reopened.{Supposed};
 ghost use Rattle.jac_host_vault.specs.Content.{StandFor, HoldsSupposed};
 
-use jac_sqlkeep::{FileOpener, OpenFault, Opener};
+use jac_sqlkeep::{FileOpener, HostOpener, OpenFault, Opener};
 use jac_value::Txt;
-use sqlite::{FileFrom, FileStore, Start};
+use sqlite::{File, FileFrom, FileStore, Start};
 use std::fs::remove_file;
 
 /// The bytes that a store's log and file hold as they are opened, and the store that they stand
@@ -25,40 +25,6 @@ pub trait FileContent: Start {
     fn stand()
         ensures { StandFor (image_at Self.Start) holds };
 }
-
-/// For `main` to name: nothing is supposed. After a crash each byte is the old one or one that was
-/// written, so most changes wait for the disk once.
-#[derive(Drop)]
-pub struct UnknownContent;
-
-impl Start for UnknownContent {
-    ghost log = { [] };
-
-    ghost db = { [] };
-
-    ghost is_mixing = { true };
-
-    fn mixes() -> bool {
-        true
-    }
-}
-
-impl FileContent for UnknownContent {
-    ghost holds = { record {
-      known = false;
-      schema = None;
-      state = record { tables = []; number = 1 };
-    } };
-
-    fn new() -> UnknownContent {
-        UnknownContent
-    }
-
-    fn stand() {}
-}
-
-/// Opens the file of the program's store, of which nothing is supposed.
-pub type UnknownFile = FileOpener<UnknownContent>;
 
 /// What opens a store's file once, and closes it.
 pub trait FileOpens: Opener + Drop {
@@ -101,13 +67,39 @@ impl<C: FileContent> FileOpens for FileOpener<C> {
     /// opening finds it. A log that a refused opening made is copied whole and then removed, while
     /// the files are still locked: so no other program has it.
     fn close(&self, rt: &HostRuntime, store: FileStore<FileFrom<C>>, refused: bool) {
-        let mut store = store;
-        if store.checkpoint().is_ok() {
-            let _files = store.close();
-            if refused {
-                remove_log(rt, self.new_log());
-            }
-        }
+        close_store(rt, store, if refused { self.new_log() } else { None });
+    }
+}
+
+/// For `main` to name: nothing is supposed of the file.
+impl FileOpens for HostOpener {
+    ghost holds = { record {
+      known = false;
+      schema = None;
+      state = record { tables = []; number = 1 };
+    } };
+
+    fn new(rt: HostRuntime, makes: bool) -> HostOpener {
+        HostOpener::new(rt, makes)
+    }
+
+    fn stand() {}
+
+    fn fault(&self) -> Option<OpenFault> {
+        HostOpener::fault(self)
+    }
+
+    fn close(&self, rt: &HostRuntime, store: FileStore<File>, refused: bool) {
+        close_store(rt, store, if refused { self.new_log() } else { None });
+    }
+}
+
+// Copies the log into the file and closes both, and removes the log of this name meanwhile.
+fn close_store<S: Start>(rt: &HostRuntime, store: FileStore<FileFrom<S>>, log: Option<&Txt>) {
+    let mut store = store;
+    if store.checkpoint().is_ok() {
+        let _files = store.close();
+        remove_log(rt, log);
     }
 }
 

@@ -9,8 +9,9 @@ mod maker;
 mod told;
 mod vault;
 
-pub use content::{FileContent, FileOpens, UnknownContent, UnknownFile};
+pub use content::{FileContent, FileOpens};
 pub use file::FileKeeper;
+pub use jac_sqlkeep::HostOpener;
 pub use laws::file_goes_on_telling;
 pub use maker::FileMaker;
 pub use vault::HostVault;

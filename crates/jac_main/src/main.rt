@@ -13,7 +13,7 @@ ghost use Rattle.jac_main.specs.Start.{BeginsSupposed, has_file};
 use jac_app::{Status, run};
 use jac_cli::{Command, command_of};
 use jac_host::{HostAudit, HostDoor, HostFiles, HostLink, Outside, Stdout, Unknown};
-use jac_host_vault::{FileMaker, FileOpens, HostVault, UnknownFile};
+use jac_host_vault::{FileMaker, FileOpens, HostOpener, HostVault};
 use jac_io::{Door, Failed, Files, Link, Sink};
 use jac_keep::Keeper;
 use jac_rows::{State, Tables};
@@ -26,7 +26,7 @@ use std::sync::ledger::{Blank, Ledger};
 use std::{env, io};
 
 fn main(rt: HostRuntime) -> ExitCode {
-    let ran = run_words::<Brand, Brand, Unknown, UnknownFile>(&rt, Blank::new(1), Blank::new(1));
+    let ran = run_words::<Brand, Brand, Unknown, HostOpener>(&rt, Blank::new(1), Blank::new(1));
     let status = match ran {
         Ok(status) => status,
         Err(Memory) => run_out(&rt),

@@ -1,7 +1,8 @@
 ghost use Rattle.std.specs.Prelude.{◌≡◌, ◌≤◌, ℕ, List, Option, Some, None, codes, false, Err, IfOk, IsErr};
 ghost use Rattle.std.specs.Option.{option_copied};
-ghost use Rattle.sqlite.specs.Files.{file_state};
+ghost use Rattle.sqlite.specs.Files.{file_state, IsOpened};
 ghost use Rattle.sqlite.specs.Held.{Held, IsNew, state};
+ghost use Rattle.sqlite.specs.State.{HasCleanDisk};
 ghost use Rattle.sqlite.specs.Steps.{over_memory, IsEmpty};
 ghost use Rattle.sqlite_wal.specs.Files.{image_at};
 ghost use Rattle.jac_io.specs.Faults.{Rose};
@@ -10,7 +11,9 @@ ghost use Rattle.jac_sqlkeep.specs.Opening.{OpensFile, IsFileGiven};
 use crate::cause::stop_of;
 use jac_keep::{AttachFault, Stop};
 use jac_value::Txt;
-use sqlite::{Alter, Connection, Error, ErrorCode, FileFrom, FileStore, MemStore, Start};
+use sqlite::{
+    Alter, Connection, Error, ErrorCode, File, FileFrom, FileStore, MemStore, Start, Unknown,
+};
 use std::alloc::{AllocError, Global};
 use std::{fs, io};
 
@@ -49,42 +52,24 @@ pub enum OpenFault {
     Other,
 }
 
-/// Opens a file, once. What it holds is supposed: where the disk is clean, the database is what
-/// these bytes of its log and its file stand for.
+// How the file of an opener was opened: the name of the log that was made, why the last opening
+// failed, and how often one did.
 #[derive(Drop)]
-pub struct FileOpener<S: Start> {
-    rt: HostRuntime,
-    makes: bool,
-    start: Option<S>,
+struct Outcome {
     log: Option<Txt>,
     fault: Option<OpenFault>,
     faults: u64,
 }
 
-impl<S: Start> FileOpener<S> {
-    /// One that makes the file if it isn't there, or one that doesn't open it then.
-    pub fn new(rt: HostRuntime, makes: bool, start: S) -> FileOpener<S>
+impl Outcome {
+    fn none() -> Outcome
         ensures { result.faults ≡ 0 }
     {
-        FileOpener {
-            rt,
-            makes,
-            start: Some(start),
+        Outcome {
             log: None,
             fault: None,
             faults: 0,
         }
-    }
-
-    /// The name of the log that the opening made beside a file that was there and had none, where
-    /// the file was opened.
-    pub fn new_log(&self) -> Option<&Txt> {
-        self.log.as_ref()
-    }
-
-    /// Why the last opening failed.
-    pub fn fault(&self) -> Option<OpenFault> {
-        self.fault
     }
 
     fn fail(&mut self, fault: OpenFault) -> AttachFault
@@ -98,10 +83,45 @@ impl<S: Start> FileOpener<S> {
     }
 }
 
+/// Opens a file, once. What it holds is supposed: where the disk is clean, the database is what
+/// these bytes of its log and its file stand for.
+#[derive(Drop)]
+pub struct FileOpener<S: Start> {
+    rt: HostRuntime,
+    makes: bool,
+    start: Option<S>,
+    outcome: Outcome,
+}
+
+impl<S: Start> FileOpener<S> {
+    /// One that makes the file if it isn't there, or one that doesn't open it then.
+    pub fn new(rt: HostRuntime, makes: bool, start: S) -> FileOpener<S>
+        ensures { result.outcome.faults ≡ 0 }
+    {
+        FileOpener {
+            rt,
+            makes,
+            start: Some(start),
+            outcome: Outcome::none(),
+        }
+    }
+
+    /// The name of the log that the opening made beside a file that was there and had none, where
+    /// the file was opened.
+    pub fn new_log(&self) -> Option<&Txt> {
+        self.outcome.log.as_ref()
+    }
+
+    /// Why the last opening failed.
+    pub fn fault(&self) -> Option<OpenFault> {
+        self.outcome.fault
+    }
+}
+
 impl<S: Start> Opener for FileOpener<S> {
     type Store = FileStore<FileFrom<S>>;
 
-    ghost faults = { λ o. o.faults };
+    ghost faults = { λ o. o.outcome.faults };
 
     ghost gives = { λ name c. IsFileGiven (image_at S.Start) (file_state c) × IsNew c };
 
@@ -112,31 +132,108 @@ impl<S: Start> Opener for FileOpener<S> {
         _: Global,
         name: Option<&Txt>,
     ) -> Result<Connection<FileStore<FileFrom<S>>>, AttachFault>
-        ensures opens { OpensFile self.old.faults self.new.faults result }
+        ensures opens { OpensFile self.old.outcome.faults self.new.outcome.faults result }
         ensures gives { IfOk result (λ c. IsFileGiven (image_at S.Start) (file_state c)
             × IsNew c) }
         ensures outside { IfOk result (λ c. c.in_transaction ≡ false) }
         ensures unnamed { option_copied name.entry ≡ None → IsErr result }
         ensures memory { option_copied name.entry ≡ Some (codes ":memory:") → IsErr result }
     {
-        if !self.makes && !is_there(&self.rt, name) {
-            return Err(self.fail(OpenFault::Missing));
+        let start = self.start.take();
+        open_once(&self.rt, self.makes, name, start, &mut self.outcome)
+    }
+}
+
+/// Opens the file of a program, once. Nothing is supposed of it. It opens as `FileOpener` does, and
+/// has no type parameter.
+#[derive(Drop)]
+pub struct HostOpener {
+    rt: HostRuntime,
+    makes: bool,
+    start: Option<Unknown>,
+    outcome: Outcome,
+}
+
+impl HostOpener {
+    /// One that makes the file if it isn't there, or one that doesn't open it then.
+    pub fn new(rt: HostRuntime, makes: bool) -> HostOpener
+        ensures { result.outcome.faults ≡ 0 }
+    {
+        HostOpener {
+            rt,
+            makes,
+            start: Some(Unknown),
+            outcome: Outcome::none(),
         }
-        let Some(start) = self.start.take() else {
-            return Err(self.fail(OpenFault::Other));
-        };
-        let log = log_to_come(&self.rt, name);
-        match open_file(&self.rt, name, log.as_ref(), start) {
-            Ok(conn) => {
-                self.log = log;
-                Ok(conn)
-            }
-            Err(error) => {
-                self.fault = Some(fault_of(error));
-                match stop_of(error, &mut self.faults) {
-                    Stop::Keeper => Err(AttachFault::Failed),
-                    Stop::Memory => Err(AttachFault::Memory),
-                }
+    }
+
+    /// The name of the log that the opening made beside a file that was there and had none, where
+    /// the file was opened.
+    pub fn new_log(&self) -> Option<&Txt> {
+        self.outcome.log.as_ref()
+    }
+
+    /// Why the last opening failed.
+    pub fn fault(&self) -> Option<OpenFault> {
+        self.outcome.fault
+    }
+}
+
+impl Opener for HostOpener {
+    type Store = FileStore<File>;
+
+    ghost faults = { λ o. o.outcome.faults };
+
+    ghost gives = { λ name c. (HasCleanDisk (file_state c) → IsOpened c) × IsNew c };
+
+    fn open(
+        &mut self,
+        _: Global,
+        name: Option<&Txt>,
+    ) -> Result<Connection<FileStore<File>>, AttachFault>
+        ensures opens { OpensFile self.old.outcome.faults self.new.outcome.faults result }
+        ensures gives { IfOk result (λ c. (HasCleanDisk (file_state c) → IsOpened c) × IsNew c) }
+        ensures outside { IfOk result (λ c. c.in_transaction ≡ false) }
+        ensures unnamed { option_copied name.entry ≡ None → IsErr result }
+        ensures memory { option_copied name.entry ≡ Some (codes ":memory:") → IsErr result }
+    {
+        let start = self.start.take();
+        open_once(&self.rt, self.makes, name, start, &mut self.outcome)
+    }
+}
+
+// Opens the file of the name, or makes it; without a start it was opened before.
+fn open_once<S: Start>(
+    rt: &HostRuntime,
+    makes: bool,
+    name: Option<&Txt>,
+    start: Option<S>,
+    outcome: &mut Outcome,
+) -> Result<Connection<FileStore<FileFrom<S>>>, AttachFault>
+    ensures opens { OpensFile outcome.old.faults outcome.new.faults result }
+    ensures gives { IfOk result (λ c. IsFileGiven (image_at S.Start) (file_state c) × IsNew c) }
+    ensures plain { IfOk result (λ c. (HasCleanDisk (file_state c) → IsOpened c) × IsNew c) }
+    ensures outside { IfOk result (λ c. c.in_transaction ≡ false) }
+    ensures unnamed { option_copied name.entry ≡ None → IsErr result }
+    ensures memory { option_copied name.entry ≡ Some (codes ":memory:") → IsErr result }
+{
+    if !makes && !is_there(rt, name) {
+        return Err(outcome.fail(OpenFault::Missing));
+    }
+    let Some(start) = start else {
+        return Err(outcome.fail(OpenFault::Other));
+    };
+    let log = log_to_come(rt, name);
+    match open_file(rt, name, log.as_ref(), start) {
+        Ok(conn) => {
+            outcome.log = log;
+            Ok(conn)
+        }
+        Err(error) => {
+            outcome.fault = Some(fault_of(error));
+            match stop_of(error, &mut outcome.faults) {
+                Stop::Keeper => Err(AttachFault::Failed),
+                Stop::Memory => Err(AttachFault::Memory),
             }
         }
     }
@@ -169,6 +266,7 @@ fn open_file<S: Start>(
     start: S,
 ) -> Result<Connection<FileStore<FileFrom<S>>>, Error>
     ensures gives { IfOk result (λ c. IsFileGiven (image_at S.Start) (file_state c) × IsNew c) }
+    ensures plain { IfOk result (λ c. (HasCleanDisk (file_state c) → IsOpened c) × IsNew c) }
     ensures unnamed { option_copied name.entry ≡ None → IsErr result }
     ensures memory { option_copied name.entry ≡ Some (codes ":memory:") → IsErr result }
 {
