@@ -30,13 +30,22 @@ def crates(rtlib, top):
     return {crate.name: crate for crate in rtlib.crates_below(top)}
 
 
+def holds(crate, stamp):
+    """Whether the crate's library is there, and isn't known to be of an earlier text. A gate leaves no stamp beside it."""
+    path = os.path.join(crate.folder, 'out', 'rlib', 'stamp')
+    if not os.path.isfile(path):
+        return os.path.isdir(crate.rlib)
+    with open(path, encoding='utf-8') as file:
+        return file.read() == stamp
+
+
 def stock(rtlib, top, source):
     have = crates(rtlib, source)
     stamps = {name: crate.stamp() for name, crate in have.items()}
     lack = crates(rtlib, top)
     for name in sorted(lack, key=lambda name: len(lack[name].below())):
         crate = lack[name]
-        same = name in have and stamps[name] == crate.stamp() and os.path.isdir(have[name].rlib)
+        same = name in have and stamps[name] == crate.stamp() and holds(have[name], stamps[name])
         if crate.is_built() or not same or not all(below.is_built() for below in crate.below()):
             continue
         into = os.path.join(crate.folder, 'out', 'rlib')
