@@ -41,7 +41,7 @@ OTHERS = {'Flask': COMMON + '''
 import flask, logging, werkzeug.serving
 logging.getLogger('werkzeug').setLevel(logging.ERROR)
 werkzeug.serving.WSGIRequestHandler.protocol_version = 'HTTP/1.1'
-app = flask.Flask('bench')
+app = flask.Flask('bench', root_path=os.getcwd())
 app.add_url_rule('/names', 'names', page)
 app.run('127.0.0.1', int(sys.argv[1]))
 ''', 'Django': COMMON + '''

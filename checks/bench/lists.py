@@ -144,7 +144,7 @@ def base_of(kind, count, path):
 def app_of(kind, base, number, page):
     """The application, whose next POST has this number. What stands before and behind the list is as in the page."""
     import flask
-    app = flask.Flask('bench')
+    app = flask.Flask('bench', root_path=os.getcwd())
     head, tail = page.partition('<p>You are')[0], page.partition('</table>\n')[2]
     between = page.partition('</header>\n')[2].partition('<table>\n')[0]
     numbers = iter(range(number, number + ROUNDS))

@@ -287,7 +287,7 @@ def by_flask(kind, count, pages):
     requests = requests_for(kind, count)
     for request in requests:
         kind.fill(base, ONE, OTHER, request)
-    app = flask.Flask('bench')
+    app = flask.Flask('bench', root_path=os.getcwd())
     first = next(iter(pages.values()))
     before, after = first.partition('<title>')[0] + '<title>', ' - ' + first.partition('</title>')[0].rpartition(' - ')[2]
     after += '</title>' + first.partition('</title>')[2].partition('<p>')[0]

@@ -236,7 +236,7 @@ def flask_times(sizes):
         base = sqlite3.connect(':memory:', check_same_thread=False)
         base.executescript('create table user (id integer primary key, name text, town text);'
                            'create table event (id integer primary key, title text, host int, open int, size int);')
-        app = flask.Flask('bench')
+        app = flask.Flask('bench', root_path=os.getcwd())
         for i in range(HOSTS):
             base.execute('insert into user values (?, ?, ?)', (i + 1, 'User %d' % i, 'Town %d' % (i % 7)))
         for i in range(count):
