@@ -15,20 +15,20 @@ ghost use Rattle.jac_headline.specs.Headline.{Given, HoldGiven, IsReplayTold, Is
 ghost use Rattle.jac_headline.specs.Replies.{AreRightReplies};
 ghost use Rattle.jac_headline.specs.Companions.{ShowsNothingForbidden, HideAlike, LeavesOthers};
 
-/// The promise, of a replay that ended with status 0, or with 3 at a refused line of its events,
-/// and whose files and store could be read to the end. Its file spells an application, and a log
-/// has one entry for each request that its events bring.
+/// This is promised of a replay that ended with status 0, or with 3 because a line of its events
+/// was refused, if its files and store could be read until it ended. Then its application's file
+/// spells an application, and there is a log with an entry for each request that its events bring.
 ///
-/// 1. **Stored rows.** Under every assignment of labels, the rows at the end show the tables that
-///    the ordinary interpreter leaves of what they showed when the store was attached (`stored`).
+/// 1. **Stored rows.** At the end each assignment of labels shows the tables that the ordinary
+///    interpreter makes of the tables that it showed when the store was attached (`stored`).
 /// 2. **Pages.** Each page is that interpreter's page, in the world before its request, under the
 ///    labels that its audit line names (`made`).
 /// 3. **Nothing forbidden.** Each of these labels meets its policy for whoever asks (`allowed`).
 /// 4. **Nothing withheld.** No single further label could be shown (`settled`). With `--lazy` this
 ///    isn't claimed.
 ///
-/// The output took the replies of that log, and then the line that refuses an event, if one is
-/// refused. The audit took the lines of the log.
+/// The replies of that log were written to the output, followed by the line that refuses an event,
+/// if one was refused. The audit lines of the log were written to the audit.
 pub fn headline<L>()
     ensures { (words : List (List ℕ)) (replay : Replay) (given : Given) (top : TopRun L) →
         IsTopRun words top → command_of words ≡ Some (commands.Replay replay) →
