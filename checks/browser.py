@@ -429,8 +429,9 @@ def in_turn(program, folder):
 
 def main():
     global PROGRAM, PICTURES
-    PROGRAM = proved.program(proved.first_word())
-    PICTURES = os.path.abspath(sys.argv[2]) if len(sys.argv) > 2 else None
+    words = proved.words(pictures={'metavar': 'FOLDER', 'nargs': '?', 'help': 'a folder for pictures of the pages'})
+    PROGRAM = proved.program(words.program)
+    PICTURES = os.path.abspath(words.pictures) if words.pictures else None
     installed.need(NAMES)
     found, results = installed.find(*NAMES), []
     # what the browser still writes as it ends may be left behind

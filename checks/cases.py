@@ -96,8 +96,9 @@ def failures(program, text):
 
 
 def main():
-    program = proved.program(proved.first_word())
-    names = [name for name in sorted(os.listdir(FOLDER)) if not sys.argv[2:] or any(w in name for w in sys.argv[2:])]
+    words = proved.words(names={'metavar': 'NAME', 'nargs': '*', 'help': 'a part of the names of the cases that run'})
+    program = proved.program(words.program)
+    names = [name for name in sorted(os.listdir(FOLDER)) if not words.names or any(w in name for w in words.names)]
     failed = 0
     for name in names:
         try:

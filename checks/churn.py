@@ -11,8 +11,9 @@ import tempfile
 from support import proved
 from support.serving import served
 
-PROGRAM = proved.program(proved.first_word())
-REQUESTS = 100000
+WORDS = proved.words(requests={'metavar': 'NUMBER', 'nargs': '?', 'type': int, 'default': 100000,
+                               'help': 'how many creates and deletes (%(default)s)'})
+PROGRAM = proved.program(WORDS.program)
 ROUND = 100             # creates and deletes of a round
 MOST = 1 << 18          # bytes by which memory may grow
 APPLICATION = r"""(app (viewer Person)
@@ -109,7 +110,7 @@ def grown(run, client, first, requests, lists):
 
 
 def main():
-    requests = (int(sys.argv[2]) if sys.argv[2:] else REQUESTS) // 2 // ROUND * ROUND
+    requests = WORDS.requests // 2 // ROUND * ROUND
     failed = 0
     with tempfile.TemporaryDirectory() as folder:
         with open(os.path.join(folder, 'app'), 'w', encoding='utf-8') as file:

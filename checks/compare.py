@@ -585,11 +585,19 @@ def dumped(cell):
     return text_of(cell).decode()
 
 
-def main():
-    program, word = proved.program(proved.first_word()), sys.argv[2]
+def read_words():
+    """The program, how many applications or else for how many seconds, and the first one's seed."""
+    words = proved.words(number={'metavar': 'NUMBER', 'help': 'how many applications, or as 600s for how many seconds'},
+                         seed={'metavar': 'SEED', 'nargs': '?', 'type': int, 'default': int(time.time()) * 1000,
+                               'help': 'the seed of the first one, instead of the time'})
+    word = words.number
     most, seconds = (None, float(word[:-1])) if word.endswith('s') else (int(word), None)
+    return proved.program(words.program), most, seconds, words.seed
+
+
+def main():
+    program, most, seconds, seed = read_words()
     began, count, requests, wrong = time.monotonic(), 0, 0, 0
-    seed = int(sys.argv[3]) if len(sys.argv) > 3 else int(time.time()) * 1000
     while (time.monotonic() - began < seconds if most is None else count < most) and wrong < 5:
         with tempfile.TemporaryDirectory() as folder:
             case = Case(program, seed)

@@ -18,8 +18,7 @@ import sys
 import tempfile
 import time
 
-from support import proved
-from compare import Maker, written
+from compare import Maker, read_words, written
 
 TOP = os.path.dirname(os.path.dirname(os.path.abspath(__file__)))
 KEPT = 'crates/jac_viewer_caches/src/viewer_caches.rt', r'(const VIEWERS: usize = )\d+;', r'\g<1>0;'
@@ -163,9 +162,8 @@ def difference(have, want):
 
 
 def main():
-    program, word = proved.program(proved.first_word()), sys.argv[2]
-    most, seconds = (None, float(word[:-1])) if word.endswith('s') else (int(word), None)
-    seed = first = int(sys.argv[3]) if len(sys.argv) > 3 else int(time.time()) * 1000
+    program, most, seconds, first = read_words()
+    seed = first
     requests = labels = slow = wrong = 0
     with tempfile.TemporaryDirectory() as folder:
         other = forgetful(folder)

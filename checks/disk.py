@@ -20,8 +20,9 @@ import tempfile
 from support import proved
 from support.serving import served
 
-PROGRAM = proved.binary(proved.first_word())
-LAST = int(sys.argv[2]) if len(sys.argv) > 2 else 30
+WORDS = proved.words(last={'metavar': 'N', 'nargs': '?', 'type': int, 'default': 30,
+                           'help': 'the last call of each kind that fails (%(default)s)'})
+PROGRAM, LAST = proved.binary(WORDS.program), WORDS.last
 COMPILERS = 'cc', 'gcc', 'clang'
 SKIPPED = 77
 LIBRARY = r'''
@@ -223,4 +224,5 @@ def main():
     sys.exit(1 if failed else 0)
 
 
-main()
+if __name__ == '__main__':
+    main()

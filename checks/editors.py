@@ -17,7 +17,7 @@ import tempfile
 import textwrap
 
 sys.dont_write_bytecode = True
-from support.pages import TOP, read                                         # noqa: E402
+from support.pages import TOP, read, script_parser                          # noqa: E402
 
 sys.path.insert(0, os.path.join(TOP, 'tools'))
 import editors                                                              # noqa: E402
@@ -234,6 +234,7 @@ def of_examples(room):
 
 
 def main():
+    script_parser().parse_args()
     with tempfile.TemporaryDirectory() as room:
         results = [*of_language(), *of_files(), *of_examples(room)]
     for wrong in filter(None, results):

@@ -14,13 +14,17 @@ import sys
 import tempfile
 
 sys.dont_write_bytecode = True
+from support import proved                                                  # noqa: E402
+
 TOP = os.path.dirname(os.path.dirname(os.path.abspath(__file__)))
 SCRIPT = os.path.join(TOP, 'tools', 'fault_place.py')
 SPEC = importlib.util.spec_from_file_location('fault_place', SCRIPT)
 fault_place = importlib.util.module_from_spec(SPEC)
 SPEC.loader.exec_module(fault_place)
 
-PROGRAM = os.path.abspath(sys.argv[1])
+WORDS = proved.words(seed={'metavar': 'SEED', 'nargs': '?', 'type': int, 'default': 1,
+                           'help': 'what chooses the damages (%(default)s)'})
+PROGRAM = os.path.abspath(WORDS.program)
 WANTED = 10
 OPERATIONS = {'add', 'sub', 'mul', 'eq', 'lt', 'and', 'or'}
 
@@ -430,7 +434,7 @@ def said(folder, data, name='damaged.app', words=('check', 'damaged.app')):
 
 
 def main():
-    chance = random.Random(int(sys.argv[2]) if len(sys.argv) > 2 else 1)
+    chance = random.Random(WORDS.seed)
     paths = sorted(glob.glob(os.path.join(TOP, 'examples', '*.app')) + glob.glob(os.path.join(TOP, 'examples', '*', 'app')))
     texts = {os.path.relpath(path, TOP): open(path, 'rb').read() for path in paths}
     passed = failed = 0

@@ -9,7 +9,7 @@ import re
 import sys
 
 sys.dont_write_bytecode = True
-from support.pages import differences, read                                 # noqa: E402
+from support.pages import differences, page_parser, read                    # noqa: E402
 from testing import of_crate                                                # noqa: E402
 
 PAGE = 'docs/LAYERS.md'
@@ -79,17 +79,25 @@ def laws(found):
             yield '%s: %s' % (name, ', '.join(own))
 
 
+def options():
+    parser = page_parser()
+    parser.add_argument('--lines', action='store_true', help='print the lines of code of each crate instead')
+    parser.add_argument('--laws', action='store_true', help='print the laws that no code calls instead')
+    return parser.parse_args()
+
+
 def main():
+    given = options()
     found, wrong, own = storeys(read('crates.txt'))
-    if '--lines' in sys.argv[1:]:
+    if given.lines:
         for _, crates in found:
             for name, _, _ in crates:
                 print('%6d %s' % (of_crate(name)[0], name))
         return
-    if '--laws' in sys.argv[1:]:
+    if given.laws:
         print('\n'.join(laws(found)))
         return
-    wrong += differences(PAGE, {'crates': table(found, own)}, 'checks/layers.py', '--write' in sys.argv[1:])
+    wrong += differences(PAGE, {'crates': table(found, own)}, 'checks/layers.py', given.write)
     for line in wrong:
         print('FAILED ' + line)
     print('%d crates in %d storeys' % (len(own), len(found)))

@@ -569,16 +569,19 @@ def of_program(program):
 
 
 def main():
+    parser = proved.script_parser()
+    parser.add_argument('program', metavar='PROGRAM', nargs='?', help='./jac, or the path of a program')
+    given = parser.parse_args().program
     with tempfile.TemporaryDirectory() as folder:
         results = [*of_texts(folder), *(looked(name, name, want) for name, want in {**TRAPS, **EXAMPLES}.items()),
                    *of_whole_examples(), *of_folder(), *of_accepted(folder), *of_refusals(folder), *of_commands(),
                    *of_all_cases(), *of_audits(), *of_reasons()]
-    if sys.argv[1:]:
-        results += of_program(proved.program(proved.first_word()))
+    if given:
+        results += of_program(proved.program(given))
     for wrong in filter(None, results):
         print('FAILED ' + wrong)
     failed = sum(1 for wrong in results if wrong)
-    skipped = '' if sys.argv[1:] else ', %d skipped' % len(REASONS)
+    skipped = '' if given else ', %d skipped' % len(REASONS)
     print('%d passed, %d failed%s' % (len(results) - failed, failed, skipped))
     return 1 if failed else 0
 

@@ -24,8 +24,9 @@ import time
 from support import installed
 from support import proved
 
-PROGRAM = proved.binary(proved.first_word())
-SECONDS = float(sys.argv[2]) if len(sys.argv) > 2 else 90
+WORDS = proved.words(seconds={'metavar': 'SECONDS', 'nargs': '?', 'type': float, 'default': 90,
+                              'help': 'how long it goes on (%(default)s)'})
+PROGRAM, SECONDS = proved.binary(WORDS.program), WORDS.seconds
 COMPILERS = 'cc', 'gcc', 'clang'
 SHOWN = 20      # failures that are printed
 LIBRARY = r'''
@@ -347,4 +348,5 @@ def main():
     sys.exit(1 if tally.failed or not tally.passed else 0)
 
 
-main()
+if __name__ == '__main__':
+    main()

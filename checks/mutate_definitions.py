@@ -18,7 +18,6 @@ as well, words that begin with a capital letter, of which `definition_values.py`
 the prover is asked of its examples too. What is turned of jac_engine is asked of the examples of jac_answer_examples first, among whose
 own definitions it stands then, so that the engine isn't proved for each turn. `--jobs` copies are at work side by side,
 `--through` are words to run each check through, and what is told in the file of the results isn't tried again."""
-import argparse
 import collections
 import concurrent.futures
 import os
@@ -32,7 +31,7 @@ import tempfile
 
 sys.dont_write_bytecode = True
 from definition_values import Logic, parts                                  # noqa: E402
-from support.pages import TOP, read                                         # noqa: E402
+from support.pages import TOP, read, script_parser                          # noqa: E402
 
 SAMPLES, FILES = 'jac_semantics_examples', {
     'jac_plain': ('Expressions', 'World', 'Statements', 'Policies', 'Requests', 'Reading', 'Records', 'Making', 'Models'),
@@ -489,14 +488,24 @@ def try_all(numbered, words):
     return collections.Counter(outcome.split()[0] for outcome in outcomes.values())
 
 
+def read_words():
+    parser = script_parser()
+    for name, shown, kind, value, about in (
+            ('--count', 'N', int, 200, 'how many turns the seed chooses (%(default)s)'),
+            ('--seed', 'N', int, 1, 'the seed (%(default)s)'),
+            ('--jobs', 'N', int, 1, 'how many copies are at work at once (%(default)s)'),
+            ('--through', 'WORDS', str, '', 'the words that each check is run through'),
+            ('--results', 'FILE', str, '', 'where outcomes are written, and those of an earlier run are read'),
+            ('--only', 'TEXT', str, '', 'only the turns in files whose path has this text')):
+        parser.add_argument(name, metavar=shown, type=kind, default=value, help=about)
+    for name, about in (('--list', 'list the turns, and try none'), ('--all', 'take all turns'),
+                        ('--prove', 'ask the prover of each turn that no example sees')):
+        parser.add_argument(name, action='store_true', help=about)
+    return parser.parse_args()
+
+
 def main():
-    words = argparse.ArgumentParser()
-    for name, kind, value in (('--count', int, 200), ('--seed', int, 1), ('--jobs', int, 1), ('--through', str, ''),
-                              ('--results', str, ''), ('--only', str, '')):
-        words.add_argument(name, type=kind, default=value)
-    for name in ('--list', '--all', '--prove'):
-        words.add_argument(name, action='store_true')
-    words = words.parse_args()
+    words = read_words()
     found, total = chosen(words)
     numbered = [(number, turn) for number, turn in enumerate(found) if words.only in turn.path]
     if words.list:

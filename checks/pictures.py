@@ -241,9 +241,9 @@ def of_matrix(program, looker):
 
 
 def main():
-    words = sys.argv[1:]
+    words = proved.words(pictures={'metavar': 'FOLDER', 'nargs': '?', 'help': 'a folder for pictures of the pages'})
     installed.need(browser.NAMES)
-    program, pictures = proved.binary(words[0]), words[1] if len(words) > 1 else None
+    program, pictures = proved.binary(words.program), words.pictures
     chromium = installed.find(*browser.NAMES)
     with tempfile.TemporaryDirectory(ignore_cleanup_errors=True) as folder, \
             contextlib.closing(markup.Watched(chromium, folder)) as run:

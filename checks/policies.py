@@ -7,7 +7,7 @@ import re
 import sys
 
 sys.dont_write_bytecode = True
-from support.pages import differences, read                                 # noqa: E402
+from support.pages import differences, page_parser, read                    # noqa: E402
 
 PAGE = 'docs/GUARANTEES.md'
 NAMED = ('examples/calendar.app', 'examples/calendar/app', 'examples/conference/app', 'examples/courses/app',
@@ -71,12 +71,13 @@ def table(names):
 
 
 def main():
-    words = sys.argv[1:]
-    names = [word for word in words if word != '--write']
-    if names:
-        print(table(names))
+    parser = page_parser()
+    parser.add_argument('names', metavar='APP', nargs='*', help='print the table of these applications instead')
+    given = parser.parse_args()
+    if given.names:
+        print(table(given.names))
         return
-    wrong = differences(PAGE, {'open applications': table(NAMED)}, 'checks/policies.py', '--write' in words)
+    wrong = differences(PAGE, {'open applications': table(NAMED)}, 'checks/policies.py', given.write)
     for line in wrong:
         print('FAILED ' + line)
     print('%d applications, %d failed' % (len(NAMED), len(wrong)))

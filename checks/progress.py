@@ -10,6 +10,9 @@ import tempfile
 import time
 
 TOP = os.path.dirname(os.path.dirname(os.path.abspath(__file__)))
+sys.path.append(os.path.join(TOP, 'tools'))
+from arguments import script_parser                                         # noqa: E402
+
 WAIT = 120      # seconds; other programs may have the machine
 
 # Each runs below tools/, with a folder of its own as its word.
@@ -149,6 +152,7 @@ def cases():
 
 
 def main():
+    script_parser().parse_args()
     results = list(cases())
     for wrong in filter(None, results):
         print('FAILED ' + wrong)

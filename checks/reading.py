@@ -15,7 +15,7 @@ import re
 import sys
 
 sys.dont_write_bytecode = True
-from support.pages import TOP, differences, read                            # noqa: E402
+from support.pages import TOP, differences, page_parser, read               # noqa: E402
 
 START = ('jac_app', 'program', 'run')
 PAGE = 'docs/READING.md'
@@ -349,21 +349,29 @@ def law_counts(repository):
     return '\n'.join(lines), wrong
 
 
+def options():
+    parser = page_parser()
+    parser.add_argument('--beyond', action='store_true',
+                        help="print, file by file, the definitions that the promise doesn't reach instead")
+    parser.add_argument('--types', action='store_true',
+                        help='print, file by file, the types and traits that the definitions name instead')
+    return parser.parse_args()
+
+
 def main():
-    repository = Repository()
+    given, repository = options(), Repository()
     start, seen, library = repository.walk()
-    if '--types' in sys.argv[1:]:
+    if given.types:
         return print('\n'.join(types_lines(start, seen)))
-    if '--beyond' in sys.argv[1:]:
+    if given.beyond:
         return print('\n'.join(beyond_lines(repository, seen)))
     parts = {'definitions': definitions_list(start, seen),
              'counts': sentence(repository, seen, library),
              'statement': law_code(repository, HEADLINE)}
     parts['laws'], wrong = law_counts(repository)
-    write = '--write' in sys.argv[1:]
     for page in QUOTERS:
-        wrong += differences(page, {'headline': law_words(HEADLINE)}, 'checks/reading.py', write)
-    wrong += lost_definitions(repository) + differences(PAGE, parts, 'checks/reading.py', write)
+        wrong += differences(page, {'headline': law_words(HEADLINE)}, 'checks/reading.py', given.write)
+    wrong += lost_definitions(repository) + differences(PAGE, parts, 'checks/reading.py', given.write)
     for line in wrong:
         print('FAILED ' + line)
     print(parts['counts'])

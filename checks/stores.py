@@ -22,14 +22,16 @@ import time
 from support import proved
 from support.serving import served
 
-PROGRAM = proved.program(proved.first_word())
+WORDS = proved.words(kills={'metavar': 'N', 'nargs': '?', 'type': int,
+                            'help': 'how many runs of each kind are killed (50 that serve, 100 upgrades)'})
+PROGRAM = proved.program(WORDS.program)
 TOP = os.path.dirname(os.path.dirname(os.path.abspath(__file__)))
 # the script copies a store before its upgrade; beside any other program it is done as the script does it
 IS_SCRIPT = proved.is_script(PROGRAM) or PROGRAM == proved.PROVED
 UPGRADE = [os.path.join(TOP, 'jac')] if IS_SCRIPT else [
     sys.executable, os.path.join(TOP, 'tools', 'store_copies.py'), 'upgrade', PROGRAM]
 FAULT_PLACE = os.path.join(TOP, 'tools', 'fault_place.py')
-KILLS, UPGRADES = (int(sys.argv[2]),) * 2 if len(sys.argv) > 2 else (50, 100)
+KILLS, UPGRADES = (50, 100) if WORDS.kills is None else (WORDS.kills, WORDS.kills)
 CALENDAR = b'''(app (viewer User)
  (model User (fields (name text)))
  (model Event (fields (title text) (host (ref User)) (open bool))
@@ -763,4 +765,5 @@ def main():
     sys.exit(1 if failed else 0)
 
 
-main()
+if __name__ == '__main__':
+    main()

@@ -10,7 +10,7 @@ import re
 import sys
 
 sys.dont_write_bytecode = True
-from support.pages import TOP, read                                         # noqa: E402
+from support.pages import TOP, read, script_parser                          # noqa: E402
 from reading import Specs                                                   # noqa: E402
 from testing import crates, paths                                           # noqa: E402
 
@@ -139,9 +139,12 @@ def complaints(found, entries):
 
 
 def main():
+    parser = script_parser()
+    parser.add_argument('--write', action='store_true', help='take out of the list what is no longer needed')
+    write = parser.parse_args().write
     found = everything()
     entries = allowed()
-    if '--write' in sys.argv[1:]:
+    if write:
         entries = collections.Counter({key: min(count, found[key]) for key, count in entries.items() if found[key]})
         written(entries)
     wrong = list(complaints(found, entries))

@@ -7,7 +7,7 @@ import sys
 
 sys.dont_write_bytecode = True
 from cases import FOLDER, parse                                             # noqa: E402
-from support.pages import TOP, differences, read                            # noqa: E402
+from support.pages import TOP, differences, page_parser, read               # noqa: E402
 from reading import Specs                                                   # noqa: E402
 
 PAGE = 'docs/TESTING.md'
@@ -84,8 +84,9 @@ def of_cases():
 
 
 def main():
+    write = page_parser().parse_args().write
     tables = {'counts': table({name: of_crate(name) for name in crates()}), 'cases': of_cases()}
-    wrong = differences(PAGE, tables, 'checks/testing.py', '--write' in sys.argv[1:])
+    wrong = differences(PAGE, tables, 'checks/testing.py', write)
     for line in wrong:
         print('FAILED ' + line)
     print(tables['cases'])

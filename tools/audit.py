@@ -14,6 +14,7 @@ import sys
 
 sys.dont_write_bytecode = True
 sys.path.insert(0, os.path.dirname(os.path.abspath(__file__)))
+from arguments import script_parser                                         # noqa: E402
 import assemble                                                             # noqa: E402
 import fault_place                                                          # noqa: E402
 
@@ -81,11 +82,14 @@ def told(names, line, asks):
 
 
 def main(words):
-    if len(words) not in (2, 3):
-        sys.exit(__doc__)
-    names = Names(assemble.read_or_exit(words[0]))
-    asks = asked(words[2]) if len(words) == 3 else {}
-    with open(words[1], encoding='utf-8', errors='replace') as file:
+    parser = script_parser()
+    parser.add_argument('application', metavar='APP', help='the file or the folder of the application')
+    parser.add_argument('audit', metavar='AUDIT', help='the file of the audit')
+    parser.add_argument('events', metavar='EVENTS', nargs='?', help='the file of the events that were answered')
+    given = parser.parse_args(words)
+    names = Names(assemble.read_or_exit(given.application))
+    asks = {} if given.events is None else asked(given.events)
+    with open(given.audit, encoding='utf-8', errors='replace') as file:
         for line in file.read().split('\n'):
             if line:
                 print(told(names, line, asks))

@@ -15,6 +15,7 @@ import time
 
 sys.dont_write_bytecode = True
 import kit                                                                  # noqa: E402
+from arguments import script_parser                                         # noqa: E402
 from costs import costs                                                     # noqa: E402
 from crates import PROGRAM, TOP, below, files, folder                       # noqa: E402
 from program import PROVED, State, is_current                               # noqa: E402
@@ -210,10 +211,17 @@ def stop_by(number, _):
     raise Stopped(number)
 
 
+def main():
+    parser = script_parser('./prove')
+    parser.add_argument('crate', metavar='CRATE', nargs='?', default=PROGRAM,
+                        help='the crate of the program (%(default)s)')
+    return build(parser.parse_args().crate)
+
+
 if __name__ == '__main__':
     if sys.argv[1:2] == [STEP]:
         sys.exit(step(sys.argv[2:]))
     # so that the proofs that are under way end with it
     for number in signal.SIGTERM, signal.SIGHUP, signal.SIGINT:
         signal.signal(number, stop_by)
-    sys.exit(build(sys.argv[1]))
+    sys.exit(main())

@@ -416,13 +416,14 @@ def port_of(word):
 def options_of(words):
     parser = argparse.ArgumentParser(prog='jac dev', description=__doc__, allow_abbrev=False,
                                      formatter_class=argparse.RawDescriptionHelpFormatter)
+    # the script jac gives it
+    parser.add_argument('program', type=os.path.abspath, help=argparse.SUPPRESS)
     parser.add_argument('app', metavar='APP', help='the application')
     parser.add_argument('port', metavar='PORT', type=port_of, help='where the browser finds it, on this machine alone')
     parser.add_argument('--db', metavar='FILE', help='the store; else one is made, and removed at the end')
     parser.add_argument('--sessions', metavar='FILE',
                         help='the sessions; of a folder its own file `sessions`, if it has one')
-    options = parser.parse_args(words[1:])
-    options.program = os.path.abspath(words[0])
+    options = parser.parse_args(words)
     beside = os.path.join(options.app, 'sessions')
     if options.sessions is None and os.path.isfile(beside):
         options.sessions = beside

@@ -8,6 +8,9 @@ import re
 import subprocess
 import sys
 
+sys.dont_write_bytecode = True
+from arguments import script_parser                                         # noqa: E402
+
 TOP = os.path.dirname(os.path.dirname(os.path.abspath(__file__)))
 IMPORT = re.compile(r'(?m)^\s*(?:pub )?(?:ghost )?use Rattle\.(jac_\w+)\.(specs|proofs)\.([\w.+-]+?)\.\{([^}]*)\}')
 GROUP = re.compile(r'(?m)^\s*(?:pub )?use [^\n]*?\{([^}]*)\}')
@@ -79,6 +82,7 @@ def lacked(text, brought, known):
 
 
 def main():
+    script_parser().parse_args()
     paths = subprocess.run(['git', 'ls-files', 'crates'], cwd=TOP, capture_output=True, text=True, check=True).stdout.split()
     texts = {}
     for path in paths:

@@ -9,6 +9,7 @@ import subprocess
 import sys
 
 sys.dont_write_bytecode = True
+from arguments import script_parser                                         # noqa: E402
 from crates import PARTS, PROGRAM, TOP, below, files                        # noqa: E402
 
 PROVED = os.path.join(TOP, 'crates', PROGRAM, 'out', PROGRAM)
@@ -87,5 +88,11 @@ def is_current(program):
     return False
 
 
+def main():
+    parser = script_parser()
+    parser.add_argument('program', metavar='PROGRAM', help='the path of the program')
+    return 0 if is_current(os.path.abspath(parser.parse_args().program)) else 1
+
+
 if __name__ == '__main__':
-    sys.exit(0 if is_current(os.path.abspath(sys.argv[1])) else 1)
+    sys.exit(main())

@@ -10,6 +10,7 @@ import sys
 
 sys.dont_write_bytecode = True
 sys.path.insert(0, os.path.dirname(os.path.abspath(__file__)))
+from arguments import script_parser                                         # noqa: E402
 import fault_place                                                          # noqa: E402
 
 # what an application of a schema alone gives as public values
@@ -228,19 +229,19 @@ def of_other(command, store, old, name, new):
         name, store)
 
 
-def main(words):
+def main():
     import application as applications
-    if len(words) != 1 or words[0] in ('-h', '--help'):
-        print(__doc__)
-        return 0 if words[:1] in (['-h'], ['--help']) else 2
+    parser = script_parser()
+    parser.add_argument('application', metavar='APP', help='the file or the folder of the application')
+    name = parser.parse_args().application
     try:
-        print(schema_text(of_application(applications.read(words[0]))))
+        print(schema_text(of_application(applications.read(name))))
     except (applications.Fault, fault_place.TreeFault, IndexError, KeyError, AttributeError) as fault:
         print('schema: %s' % (fault if isinstance(fault, applications.Fault) else
-                              '%s is no application that is served' % words[0]), file=sys.stderr)
+                              '%s is no application that is served' % name), file=sys.stderr)
         return 1
     return 0
 
 
 if __name__ == '__main__':
-    sys.exit(main(sys.argv[1:]))
+    sys.exit(main())

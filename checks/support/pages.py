@@ -1,8 +1,18 @@
 """Tables of docs/ that a script writes: each stands between two marks, `<!-- NAME: SCRIPT writes this -->` and
 `<!-- NAME: its end -->`."""
 import os
+import sys
 
 TOP = os.path.dirname(os.path.dirname(os.path.dirname(os.path.abspath(__file__))))
+sys.path.append(os.path.join(TOP, 'tools'))
+from arguments import script_parser                                         # noqa: E402
+
+
+def page_parser():
+    """A parser for the words of a script that compares its tables with their page, or writes them."""
+    parser = script_parser()
+    parser.add_argument('--write', action='store_true', help='write the tables anew, instead of comparing them')
+    return parser
 
 
 def read(path):

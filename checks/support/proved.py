@@ -5,6 +5,9 @@ import subprocess
 import sys
 
 TOP = os.path.dirname(os.path.dirname(os.path.dirname(os.path.abspath(__file__))))
+sys.path.append(os.path.join(TOP, 'tools'))
+from arguments import script_parser                                         # noqa: E402
+
 PROVED = os.path.join(TOP, 'crates', 'jac_main', 'out', 'jac_main')
 TRIALS = os.path.join(TOP, 'out', '')
 
@@ -14,12 +17,18 @@ def is_script(path):
         return file.read(2) == b'#!'
 
 
+def words(**further):
+    """The script's words: the program, and further ones, each by its name with what argparse is told of it."""
+    parser = script_parser()
+    parser.add_argument('program', metavar='PROGRAM', help='./jac for the proved program, or the path of a program')
+    for name, told in further.items():
+        parser.add_argument(name, **told)
+    return parser.parse_args()
+
+
 def first_word():
-    """The script's first word. Without one, or where it asks for help, the script says what it is and ends."""
-    if len(sys.argv) > 1 and sys.argv[1] not in ('-h', '--help'):
-        return sys.argv[1]
-    print(sys.modules['__main__'].__doc__)
-    sys.exit(0 if len(sys.argv) > 1 else 2)
+    """The program, where that is the script's only word."""
+    return words().program
 
 
 def program(word):
