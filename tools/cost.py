@@ -1,10 +1,9 @@
 #!/usr/bin/env python3
 """Measures what the gate takes, crate by crate: the processor minutes of each crate's proof, of the proof of its tests,
 and of its must-fail edits, each from nothing, with as many crates side by side as processors and memory allow. It works
-on a clone of what was committed, among the temporary files, and takes nothing that earlier runs kept. Words: the crates
-that are wanted, or none for all; `--write` writes the table of docs/TESTING.md, for a run over all crates alone. What
-was measured is written down beside the clone, so that a run that was cut short goes on with what it lacks, as long as
-the crates stay; `--anew` begins again.
+on a clone of what was committed, among the temporary files, and takes nothing that earlier runs kept. What was measured
+is written down beside the clone, so that a run that was cut short goes on with what it lacks, as long as the crates
+stay.
 
 With `--gate` it runs the gate itself, `rt ci`, here and once, and measures that; what it proves is kept as by any gate. On
 a machine that keeps nothing that is the whole table, and the time by the clock. With names of crates behind it, it runs
@@ -15,6 +14,7 @@ was kept from a run that wasn't measured, its row is lacking, and nothing is wri
 A crate's edits cost a check of the crate, which they begin with, one over it for each of them, and one at the end, as
 in `rt ci`. The minutes are those of the processors, by the system's count of a process and of all that it waited for,
 so that other work on the machine lengthens them a little, and not by its own time."""
+import collections
 import os
 import shutil
 import subprocess
@@ -26,6 +26,7 @@ sys.dont_write_bytecode = True
 TOP = os.path.dirname(os.path.dirname(os.path.abspath(__file__)))
 sys.path.insert(0, os.path.join(TOP, 'checks'))
 import kit                                                                  # noqa: E402
+from arguments import script_parser                                         # noqa: E402
 from costs import HEAD, PAGE, costs                                         # noqa: E402
 from crates import below, crates                                            # noqa: E402
 from gate import measured                                                   # noqa: E402
@@ -99,24 +100,33 @@ class Notes:
         if not os.path.isdir(self.clone):
             os.makedirs(self.folder, exist_ok=True)
             subprocess.run(['git', 'clone', '-q', TOP, self.clone], check=True)
-        self.found = {}
+        self.found, self.processors = {}, set()
         if os.path.isfile(self.file):
             with open(self.file, encoding='utf-8') as lines:
                 for line in lines:
-                    what, name, minutes, memory = line.split()
+                    # an earlier version didn't write down how many processors there were
+                    what, name, minutes, memory, *lanes = line.split()
                     self.found[what, name] = float(minutes), int(memory)
+                    self.processors.update(map(int, lanes))
 
     def add(self, step):
         self.found[step.what, step.name] = step.minutes, step.memory
+        self.processors.add(processors())
         with open(self.file, 'a', encoding='utf-8') as file:
-            file.write('%s %s %.3f %d\n' % (step.what, step.name, step.minutes, step.memory))
+            file.write('%s %s %.3f %d %d\n' % (step.what, step.name, step.minutes, step.memory, processors()))
+
+
+def edits_of(name):
+    """How many must-fail edits the crate has."""
+    folder = os.path.join(TOP, 'crates', name, 'must-fail')
+    return sum(file.endswith('.edit') for file in os.listdir(folder)) if os.path.isdir(folder) else 0
 
 
 def has(what, name):
     """Whether the crate has tests, or edits."""
     folder = os.path.join(TOP, 'crates', name)
     if what == EDITS:
-        return os.path.isdir(os.path.join(folder, 'must-fail'))
+        return edits_of(name) > 0
     for at, _, names in os.walk(os.path.join(folder, 'src')):
         for file in names:
             with open(os.path.join(at, file), encoding='utf-8') as text:
@@ -161,7 +171,7 @@ def measure(notes, wanted):
     return not failed
 
 
-def table(notes, names, when, how='runs of one crate each'):
+def table(notes, names, when, how):
     """The rows that the page has, a line for each crate, and their sum."""
     def cell(what, name):
         found = notes.found.get((what, name))
@@ -174,33 +184,44 @@ def table(notes, names, when, how='runs of one crate each'):
             for name in names]
     sums = [total(what) for what in STEPS]
     rows.append('| **all** | %s | |' % ' | '.join('%.0f' % it for it in sums))
-    said = 'Measured on %s, from nothing, by `tools/cost.py` in %s, on %d processors: %.0f processor minutes.' % (
-        when, how, processors(), sum(sums))
+    said = 'Measured on %s, from nothing, by `tools/cost.py` in %s: %.0f processor minutes.' % (when, how, sum(sums))
     return '\n'.join([said, '', *HEAD, *rows])
 
 
-def how_long(measures, names):
-    """The runs that were measured, and what a run over all would take on two processors and on four."""
-    def minutes(what, name):
-        return measures.found[what, name][0]
+def tasks_of(found):
+    """The steps that were measured, as `rt ci` runs them: the proof of a crate and that of its tests wait for the proofs of
+    the crates below, and each of its edits waits for both."""
+    every = crates()
+    for (what, name), (minutes, _) in found.items():
+        if what == EDITS:
+            after, count = [(step, name) for step in (PROOF, TESTS) if (step, name) in found], edits_of(name)
+        else:
+            after, count = [(PROOF, other) for other in every[name]], 1
+        for number in range(count):
+            yield Task((what, name, number) if what == EDITS else (what, name), after, minutes / count, 0, None)
 
-    every, tasks = crates(), []
-    for what, name in measures.found:
-        if name in names:
-            after = [(PROOF, other) for other in every[name]] if what == PROOF else [(PROOF, name)]
-            tasks.append(Task((what, name), after, minutes(what, name), 0, None))
-    took = '%.0f minutes by the clock' % sum(measures.runs)
+
+def how_long(measures):
+    """The gates that were measured, and what one would take on two processors and on four."""
+    clock = collections.Counter()
+    for minutes, lanes in measures.runs:
+        clock[lanes] += minutes
+    took = ' and '.join('%.0f minutes by the clock%s' % (minutes, ' on %d processors' % lanes if lanes else '')
+                        for lanes, minutes in clock.items())
     runs = 'a run of `rt ci` that took ' + took if len(measures.runs) == 1 else (
         '%d runs of `rt ci`, each of which proved what those before it had not, and which took %s' % (
             len(measures.runs), took))
-    return '%s (one run would take %.0f on two processors and %.0f on four, if they did nothing else)' % (
-        runs, computed(tasks, 2), computed(tasks, 4))
+    tasks = list(tasks_of(measures.found))
+    # what one run took by the clock isn't computed too
+    thought = ' and '.join('%.0f minutes on %d processors' % (computed(tasks, lanes), lanes) for lanes in (2, 4)
+                           if len(measures.runs) > 1 or lanes not in clock)
+    return '%s (by these figures a run would take %s, if they did nothing else)' % (runs, thought)
 
 
-def measure_gate(words):
+def measure_gate(given):
     """Runs the gate here, and prints or writes the table of all that was measured on this machine."""
-    measures, names = measured(TOP, [word for word in words if not word.startswith('--')]), list(crates())
-    print('%.0f minutes by the clock' % measures.runs[-1])
+    measures, names = measured(TOP, given.names), list(crates())
+    print('%.0f minutes by the clock on %d processors' % measures.runs[-1])
     lacking = ['%s of %s' % (what, name) for name in names for what in STEPS
                if (what == PROOF or has(what, name)) and (what, name) not in measures.found]
     if lacking:
@@ -208,30 +229,39 @@ def measure_gate(words):
         return 1
     measures.found = {(what, name): it for (what, name), it in measures.found.items()
                       if name in names and (what == PROOF or has(what, name))}
-    rows = table(measures, names, time.strftime('%-d %B %Y'), how_long(measures, names))
+    rows = table(measures, names, time.strftime('%-d %B %Y'), how_long(measures))
     print(rows)
-    if '--write' in words:
+    if given.write:
         differences(PAGE, {'cost': rows}, 'tools/cost.py', True)
     return 0
 
 
-def main(words):
-    if '--gate' in words:
-        return measure_gate(words)
-    wanted = [word for word in words if not word.startswith('--')] or list(crates())
-    notes = Notes('--anew' in words)
+def measure_crates(given):
+    """Measures crate by crate, and prints or writes the table."""
+    wanted, notes = given.names or list(crates()), Notes(given.anew)
     print('measuring in %s, with %d processors and %d MB' % (notes.clone, processors(), free_memory()), flush=True)
     if not measure(notes, wanted):
         return 1
-    rows = table(notes, [name for name in crates() if (PROOF, name) in notes.found], time.strftime('%-d %B %Y'))
+    how = 'runs of one crate each, on %s processors' % ' or '.join(map(str, sorted(notes.processors or {processors()})))
+    rows = table(notes, [name for name in crates() if (PROOF, name) in notes.found], time.strftime('%-d %B %Y'), how)
     print(rows)
-    if '--write' in words and len(wanted) == len(crates()):
+    if given.write and len(wanted) == len(crates()):
         differences(PAGE, {'cost': rows}, 'tools/cost.py', True)
         shutil.rmtree(notes.folder)
     return 0
 
 
+def main():
+    parser = script_parser()
+    parser.add_argument('names', metavar='CRATE', nargs='*', help='the crates that are wanted; none: all')
+    parser.add_argument('--gate', action='store_true', help='run `rt ci` here, and measure that')
+    parser.add_argument('--write', action='store_true', help='write the table of docs/TESTING.md, if it is over all crates')
+    parser.add_argument('--anew', action='store_true', help='forget what an earlier run crate by crate has measured')
+    given = parser.parse_args()
+    return measure_gate(given) if given.gate else measure_crates(given)
+
+
 if __name__ == '__main__':
     if sys.argv[1:2] == ['--step']:
         sys.exit(step(*sys.argv[2:4]))
-    sys.exit(main(sys.argv[1:]))
+    sys.exit(main())

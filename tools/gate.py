@@ -9,6 +9,8 @@ import sys
 import tempfile
 import time
 
+from schedule import processors
+
 LOOK = 0.5
 TICKS, PAGE_SIZE = os.sysconf('SC_CLK_TCK'), os.sysconf('SC_PAGE_SIZE')
 CRATE = re.compile(r'--crate-name (\w+) ')
@@ -50,7 +52,7 @@ class Gate:
     """The gate of a clone, from its beginning to its end, over all crates or over those of these names."""
 
     def __init__(self, folder, names):
-        self.began, self.provers = time.monotonic(), {}
+        self.began, self.processors, self.provers = time.monotonic(), processors(), {}
         self.process = subprocess.Popen(['rt', 'ci', *names], cwd=folder, stdin=subprocess.DEVNULL)
 
     def run(self):
@@ -101,8 +103,9 @@ class Gate:
 
 
 class Measures:
-    """What gates took that were measured on this machine since it was started anew: the minutes of each by the clock, and
-    by step and crate the processor minutes and the most MB of the last gate that had to do it."""
+    """What gates took that were measured on this machine since it was started anew: of each the minutes by the clock and
+    how many processors it had, and by step and crate the processor minutes and the most MB of the last gate that had to
+    do it."""
 
     def __init__(self, folder=tempfile.gettempdir()):
         self.path = os.path.join(folder, 'jac-gate-measures.json')
@@ -110,13 +113,18 @@ class Measures:
         if os.path.isfile(self.path):
             with open(self.path, encoding='utf-8') as file:
                 kept = json.load(file)
-            self.runs = kept['runs']
+            # a run that an earlier version kept is its minutes alone
+            self.runs = [tuple(run) if isinstance(run, list) else (run, None) for run in kept['runs']]
             self.found = {(what, name): (minutes, most) for what, name, minutes, most in kept['steps']}
 
     def add(self, gate):
         """Adds what the gate did, and keeps it."""
-        self.runs.append(gate.minutes)
-        self.found.update(gate.found())
+        found = gate.found()
+        if found.keys() >= self.found.keys():
+            # it did all that those before it did, so nothing of theirs is left
+            self.runs = []
+        self.runs.append((gate.minutes, gate.processors))
+        self.found.update(found)
         steps = [[what, name, minutes, most] for (what, name), (minutes, most) in self.found.items()]
         with open(self.path + '.new', 'w', encoding='utf-8') as file:
             json.dump({'runs': self.runs, 'steps': steps}, file)
