@@ -1,0 +1,119 @@
+#!/usr/bin/env python3
+"""Asks each script of tools/, checks/ and checks/bench for help, and gives it a flag that it doesn't know. Help ends with
+status 0 and a text that begins with `usage: `, the flag is refused with status 2, both within ten seconds; and nothing is
+begun: no process is left, and no file is written. No words. Prints each that fails, and ends with a count.
+
+The scripts are a copy's, so that one that begins its work at once finds no crates, and what it writes is seen. A script is
+a file with a line `if __name__ == '__main__':`. Each check of checks/list.txt has to be one."""
+import concurrent.futures
+import glob
+import os
+import re
+import shutil
+import signal
+import subprocess
+import sys
+import tempfile
+
+sys.dont_write_bytecode = True
+from support.pages import TOP, script_parser                                # noqa: E402
+from schedule import processors                                             # noqa: E402
+
+MAIN = re.compile(r"(?m)^if __name__ == '__main__':")
+MOST = 10       # seconds
+UNKNOWN = '--no-such-flag'
+OF_A_COMMAND = 'jac begins it, and all words behind the program are those of a command'
+# scripts that only other ones begin, and why they have words of another kind
+OTHERS = {
+    'tools/fault_place.py': OF_A_COMMAND,
+    'tools/parts.py': 'the trial has it called in the place of clang, and its words are those of clang',
+    'tools/run_folder.py': OF_A_COMMAND,
+    'tools/store_copies.py': OF_A_COMMAND,
+}
+
+
+def scripts(top):
+    """The paths of the scripts, from the top."""
+    for folder in 'tools', 'checks', 'checks/bench':
+        for path in sorted(glob.glob(os.path.join(top, folder, '*.py'))):
+            with open(path, encoding='utf-8') as file:
+                if MAIN.search(file.read()):
+                    yield os.path.relpath(path, top)
+
+
+def listed():
+    """The scripts of the checks that ./test runs."""
+    with open(os.path.join(TOP, 'checks', 'list.txt'), encoding='utf-8') as lines:
+        return ['checks/%s.py' % line.split('|')[0].strip() for line in lines if line.strip() and not line.startswith('#')]
+
+
+def files(folder):
+    """The files and folders below it, each with its size and its time."""
+    return {path: (found.st_size, found.st_mtime_ns) for at, folders, names in os.walk(folder)
+            for path in (os.path.join(at, name) for name in folders + names) for found in [os.lstat(path)]}
+
+
+def ended(path, flag, room):
+    """The status, the output, and what was said on standard error, of a run in this folder; and whether it left a process.
+    One that takes too long has no status."""
+    given = dict(os.environ, TMPDIR=room, PYTHONDONTWRITEBYTECODE='1')
+    run = subprocess.Popen([sys.executable, path, flag], cwd=room, env=given, start_new_session=True, text=True,
+                           stdin=subprocess.DEVNULL, stdout=subprocess.PIPE, stderr=subprocess.PIPE)
+    try:
+        out, told = run.communicate(timeout=MOST)
+        status = run.returncode
+    except subprocess.TimeoutExpired:
+        status, out, told = None, '', ''
+    try:
+        os.killpg(run.pid, signal.SIGKILL)
+        is_left = status is not None
+    except ProcessLookupError:
+        is_left = False
+    run.communicate()
+    return status, out, told, is_left
+
+
+def asked(top, script, flag, want):
+    """What is wrong where a script of this copy gets this flag, or nothing."""
+    with tempfile.TemporaryDirectory() as room:
+        status, out, told, is_left = ended(os.path.join(top, script), flag, room)
+        written = sorted(path[len(room) + 1:] for path in files(room))
+    name = '%s %s' % (script, flag)
+    if status is None:
+        return '%s: it was at work for %d seconds' % (name, MOST)
+    if status != want or not (told if want else out).startswith('usage: ') or (out if want else told):
+        return '%s: status %d, and %r, %r' % (name, status, out[-300:], told[-300:])
+    if written or is_left:
+        return '%s: it left %s' % (name, ', '.join(written) or 'a process')
+    return None
+
+
+def answers(found):
+    """What is wrong with what the scripts answer, and with what they write."""
+    with tempfile.TemporaryDirectory() as top, concurrent.futures.ThreadPoolExecutor(processors()) as pool:
+        for folder in 'tools', 'checks', 'docs':
+            shutil.copytree(os.path.join(TOP, folder), os.path.join(top, folder))
+        before = files(top)
+        yield from pool.map(lambda words: asked(top, *words),
+                            [(script, *one) for script in found for one in (('--help', 0), (UNKNOWN, 2))])
+        after = files(top)
+        changed = [path[len(top) + 1:] for path in sorted(before.keys() | after.keys())
+                   if before.get(path) != after.get(path)]
+        yield 'these were written: ' + ', '.join(changed) if changed else None
+
+
+def main():
+    script_parser().parse_args()
+    found = list(scripts(TOP))
+    results = ["%s: it has no line `if __name__ == '__main__':`" % name if name not in found else None
+               for name in [*listed(), *OTHERS]]
+    results += answers([name for name in found if name not in OTHERS])
+    for wrong in filter(None, results):
+        print('FAILED ' + wrong)
+    failed = sum(1 for wrong in results if wrong)
+    print('%d passed, %d failed' % (len(results) - failed, failed))
+    return 1 if failed else 0
+
+
+if __name__ == '__main__':
+    sys.exit(main())
