@@ -1,11 +1,11 @@
 -- Two steps of a keeper as one: a call that the keeper stopped, and then a look at whether its store is shut.
-use Rattle.std.proofs.Common.{◌≡◌, ◌∙◌, ℕ, List, Some, Result, Err, IsTrue, arith}
+use Rattle.std.proofs.Common.{◌≡◌, ◌∙◌, ℕ, false, true≢false, sym, ap, List, Option, Some, Result, Err, IsTrue, arith}
 use Rattle.jac_keep.specs.KeeperSeen.{KeeperSeen, Store, Keeps, Looks, Reads, IsLeft}
 use Rattle.jac_keep.specs.Reshaping.{Reshapes}
 use Rattle.jac_keep.specs.declared.alteration.Change.{Change}
 use Rattle.jac_keep.specs.declared.stop.Stop.{Stop}
 use Rattle.jac_rows.specs.Good.{IsSound}
-use Rattle.jac_reopen.specs.Reopened.{KnownSeen, known_store}
+use Rattle.jac_reopen.specs.Reopened.{KnownSeen, known_store, IsLeftUnattached}
 
 pub left_then : (a b c : KeeperSeen) → IsLeft a b → IsLeft b c → IsLeft a c
 left_then a b c one two = record {
@@ -60,3 +60,17 @@ reshapes_then a b c change schema e left reshapes = record {
 -- a store that was attached under this name, with this schema
 pub known_by : (s : Store) (k : KnownSeen) → IsTrue s.called → IsTrue s.attached → s.schema ≡ Some k.schema → s.name ≡ k.name → s ≡ known_store k
 known_by s k called attached schema name = λ i. record { called = called i; attached = attached i; schema = schema i; name = name i }
+
+-- ---- what is left where nothing was attached
+
+-- a vault that is attached isn't one that was refused
+pub never_left : {V : Type 0} (seen : V → KeeperSeen) (Leaves : Option (List ℕ) → V → Type 0) (v : V) → IsTrue (seen v).store.attached → IsLeftUnattached seen Leaves v
+never_left seen Leaves v attached un = absurd (true≢false (sym attached ∙ un))
+
+-- and stays so while its store is the same
+pub still_attached : {V : Type 0} (seen : V → KeeperSeen) (Leaves : Option (List ℕ) → V → Type 0) (a b : V) → IsTrue (seen a).store.attached → (seen b).store ≡ (seen a).store → IsLeftUnattached seen Leaves b
+still_attached seen Leaves a b attached same = never_left seen Leaves b (ap (λ (s : Store). s.attached) same ∙ attached)
+
+-- one that was refused is left as its maker says
+pub left_unattached : {V : Type 0} (seen : V → KeeperSeen) (Leaves : Option (List ℕ) → V → Type 0) (name : Option (List ℕ)) (v : V) → Leaves name v → IsLeftUnattached seen Leaves v
+left_unattached seen Leaves name v left un = (name, left)

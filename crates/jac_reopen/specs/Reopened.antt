@@ -75,6 +75,12 @@ seen_either seen first (Some u) = seen_untold u
 abbrev pub seen_reopening : {V : Type 0} → (V → KeeperSeen) → ReopenSeen V → KeeperSeen
 seen_reopening seen r = seen_either seen r.first r.again
 
+-- a vault that isn't attached was refused a store of some name, of which this is left
+abbrev pub IsLeftUnattached : {V : Type 0} → (V → KeeperSeen) → (Option (List ℕ) → V → Type 0) → V
+    → Type 0
+IsLeftUnattached seen Leaves v = (seen v).store.attached ≡ false
+    → (name : Option (List ℕ)) × Leaves name v
+
 -- one is there before and after, and goes on so, or none is
 abbrev pub GoesAlong : {V : Type 0} → (V → V → Type 0) → Option V → Option V → Type 0
 GoesAlong Goes None None = ⊤

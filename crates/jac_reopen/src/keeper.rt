@@ -6,7 +6,7 @@ ghost use Rattle.jac_keep.specs.KeeperSeen.{IsLeft};
 ghost use Rattle.jac_keep.specs.ChangedState.{changed_state};
 ghost use Rattle.jac_keep.specs.Reshaping.{widened_state, Reshapes};
 ghost use Rattle.jac_keep.specs.Schema.{IsSchema, IsFit};
-ghost use Rattle.jac_reopen.specs.Reopened.{seen_reopening, waiting_keeper, known_store, HasShapes, GivesUpAtFault};
+ghost use Rattle.jac_reopen.specs.Reopened.{seen_reopening, waiting_keeper, known_store, HasShapes, GivesUpAtFault, IsLeftUnattached};
 ghost use Rattle.jac_reopen.specs.GoesOn.{gives_up_at_fault};
 
 use crate::{KnownStore, ReopenedKeeper, VaultMaker};
@@ -36,14 +36,15 @@ pub struct ReopeningKeeper<M: VaultMaker> {
 
 impl<M: VaultMaker> Model for ReopeningKeeper<M> {
     ghost use Rattle.std.specs.Prelude.{◌≡◌, IfSome};
-    ghost use Rattle.jac_reopen.specs.Reopened.{ReopenSeen, HasShapes, known_store};
+    ghost use Rattle.jac_reopen.specs.Reopened.{ReopenSeen, HasShapes, known_store, IsLeftUnattached};
 
     ghost Value = { ReopenSeen M.Vault };
 
     ghost view = { λ k. record { first = k.first; again = k.again } };
 
     ghost invariant = { λ k. IfSome k.spare (λ s. HasShapes s.store × IfSome k.first (λ v.
-        (M.Vault.Keeper.seen v).store ≡ known_store s.store)) };
+        (M.Vault.Keeper.seen v).store ≡ known_store s.store))
+        × IfSome k.first (IsLeftUnattached M.Vault.Keeper.seen M.leaves) };
 }
 
 impl<M: VaultMaker> ReopeningKeeper<M> {
@@ -59,6 +60,8 @@ impl<M: VaultMaker> ReopeningKeeper<M> {
             (seen_reopening M.Vault.Keeper.seen result.0)
             (option_copied name.entry) schema.now result.1 }
         ensures begins { OnOk result.1 (IsSomeAnd result.0.first (M.begins schema.now)) }
+        ensures left { OnErr result.1
+            (IsSomeAnd result.0.first (M.leaves (option_copied name.entry))) }
         ensures first { result.0.again ≡ None }
     {
         let mut maker = maker;
@@ -73,8 +76,9 @@ impl<M: VaultMaker> ReopeningKeeper<M> {
     }
 
     fn over(alloc: Global, vault: M::Vault, spare: Option<Spare<M>>) -> ReopeningKeeper<M>
-        requires { IfSome spare (λ s. HasShapes s.store
+        requires known { IfSome spare (λ s. HasShapes s.store
             × ((M.Vault.Keeper.seen vault).store ≡ known_store s.store)) }
+        requires left { IsLeftUnattached M.Vault.Keeper.seen M.leaves vault }
         ensures { result ≡ record { first = Some vault; again = None } }
     {
         ReopeningKeeper {
@@ -83,6 +87,13 @@ impl<M: VaultMaker> ReopeningKeeper<M> {
             spare,
             again: None,
         }
+    }
+
+    /// A law: a vault that isn't attached left the store that it was refused as its maker says.
+    pub fn stand(&self)
+        ensures { IfSome self.now.first (IsLeftUnattached M.Vault.Keeper.seen M.leaves) }
+    {
+        let _ = &self.first;
     }
 
     // After a fault: where the store answers nothing more, it is closed, and opened again by the

@@ -1,4 +1,4 @@
-ghost use Rattle.std.specs.Prelude.{◌≡◌, ℕ, List, false, IfOk, IfErr, OnOk, IsTrue};
+ghost use Rattle.std.specs.Prelude.{◌≡◌, ℕ, List, Option, false, IfOk, IfErr, OnOk, OnErr, IsTrue};
 ghost use Rattle.std.specs.Option.{option_copied};
 ghost use Rattle.jac_rows.specs.Good.{ModelShape};
 ghost use Rattle.jac_keep.specs.Attaching.{Attaches};
@@ -21,6 +21,10 @@ pub trait VaultMaker: Drop {
     /// What is known of a vault that was attached with this schema.
     ghost begins: { List ℕ → Self.Vault → Type 0 };
 
+    /// What is known of a vault that wasn't attached to the store of this name: how what it opened
+    /// is left, beside what stood there, and why it was refused.
+    ghost leaves: { Option (List ℕ) → Self.Vault → Type 0 };
+
     /// A vault over the store of this name, attached, or why it isn't.
     fn attach(
         &mut self,
@@ -31,7 +35,8 @@ pub trait VaultMaker: Drop {
         requires schema { (shapes : List ModelShape) × IsSchema schema.now shapes }
         ensures attaches { Attaches (waiting_keeper supposes) (Self.Vault.Keeper.seen result.0)
             (option_copied name.entry) schema.now result.1 }
-        ensures begins { OnOk result.1 (begins schema.now result.0) };
+        ensures begins { OnOk result.1 (begins schema.now result.0) }
+        ensures left { OnErr result.1 (leaves (option_copied name.entry) result.0) };
 
     /// A vault over a store that was attached before, with all the tests of attaching. It tells
     /// nothing, since nobody knows what became of the store meanwhile.
