@@ -14,7 +14,7 @@ use Rattle.sqlite_trees.specs.declared.store.Store.{Ghosts}
 use Rattle.sqlite.specs.Held.{Held}
 use Rattle.jac_keep.specs.declared.vault.AttachFault.TheVariants.{Failed, Memory, Other}
 use Rattle.jac_sqlkeep.specs.Based.{Based, OpensBased, Begins, Stood, ReshapesBased}
-use Rattle.jac_sqlkeep.specs.Kept.{Kept, seen_kept, tells_of, based_state, IsRefusedAs, BeginsGiven, StoodAs, IsLeftAs}
+use Rattle.jac_sqlkeep.specs.Kept.{Kept, seen_kept, tells_of, based_state, IsRefusedAs, BeginsGiven, StoodAs, IsLeftAs, LearnsSchema}
 
 -- before it was called it told nothing
 untold : (database : Option Based) (called : Bool) → (IsTrue (is_some database) → IsTrue called) → called ≡ false → tells_of database ≡ false
@@ -111,3 +111,16 @@ module _ {S E : Type 0} (g : Ghosts S) (Gives : Held S → Type 0) (schema : Lis
   left_failed old new e Failed is some = inr (stood_as (subst (OpensBased g schema kinds nested given b) is opens) new.refused some)
   left_failed old new e Memory is some = inr (stood_as (subst (OpensBased g schema kinds nested given b) is opens) new.refused some)
   left_failed old new e (Other told) is some = stood_as (subst (OpensBased g schema kinds nested given b) is opens) new.refused some
+
+-- ---- what is known where nothing was attached
+
+pub learns_other : (old before new : Kept) (b : Based) (stored : List ℕ) (result : Result (Unit {0}) AttachFault) → before.store.schema ≡ old.store.schema → before.faults ≡ old.faults → IsRefusedAs before new b stored result → LearnsSchema old new result
+learns_other old before new b stored (Ok done) schema faults refused = absurd refused
+learns_other old before new b stored (Err Failed) schema faults refused = absurd refused
+learns_other old before new b stored (Err Memory) schema faults refused = (ap (λ (k : Kept). k.store.schema) refused ∙ schema, ap (λ (k : Kept). k.faults) refused ∙ faults)
+learns_other old before new b stored (Err (Other told)) schema faults refused = ap (λ (k : Kept). k.store.schema) refused.1 ∙ ap (λ (text : List ℕ). Some text) (sym refused.0)
+
+pub learns_failed : (old new : Kept) (fault : AttachFault) → new.store.schema ≡ old.store.schema → (fault ≡ Memory → new.faults ≡ old.faults) → ((stored : List ℕ) → ¬ (fault ≡ Other stored)) → LearnsSchema old new (Err fault)
+learns_failed old new Failed schema uncounted other = schema
+learns_failed old new Memory schema uncounted other = (schema, uncounted refl)
+learns_failed old new (Other stored) schema uncounted other = absurd (other stored refl)

@@ -23,13 +23,14 @@ use Rattle.jac_sql_spec.specs.Told.{told, tables_in, schema_in}
 use Rattle.jac_sql_spec.specs.Statements.{statements_with}
 use Rattle.jac_sql_spec.specs.Telling.{empty_state, IsAllCommitted, ReadsTold, AppliesTold, ReshapesTold, CanBeStored}
 use Rattle.jac_sql_spec.specs.Transaction.{Transacts, EndsCommitted}
-use Rattle.jac_sql_spec.proofs.Kept.{reshape_told}
+use Rattle.jac_sql_spec.proofs.Kept.{reshape_told, schema_stands}
 use Rattle.jac_sql_spec.proofs.Stays.{clean_if_open}
 use Rattle.sqlite_schema.specs.declared.schema.Schema.{Schema}
 use Rattle.sqlite.specs.Effect.{Database}
 use Rattle.jac_sql_spec.specs.Lasting.{ConnectionLasts, IsSeenUnmoved}
+use Rattle.jac_sql_spec.specs.Stands.{Stands}
 use Rattle.jac_sql_spec.specs.Tables.{no_tables, two_tables}
-use Rattle.jac_sqlkeep.specs.Based.{Based, based_keeper, DatabaseGoesOn, HasTables, Stood, Begins, IsWhole, ReadsBased, AppliesBased, ReshapesBased}
+use Rattle.jac_sqlkeep.specs.Based.{Based, based_keeper, DatabaseGoesOn, HasTables, AreCommitted, Stood, IsStanding, Begins, IsWhole, ReadsBased, AppliesBased, ReshapesBased}
 
 never : {A : Type 0} → IsTrue false → A
 never t = absurd (true≢false (sym t))
@@ -136,10 +137,25 @@ module _ {S : Type 0} (g : Ghosts S) (kinds : List (List Kind)) (given h : Held 
   same_tables : (known : Bool) → (state g h).now ≡ (state g given).now → HasTables (state g given).now (based_keeper g kinds known h)
   same_tables known same = record { meta = ap (λ (d : Database). d.trees 0) same; rec = ap (λ (d : Database). d.trees 1) same }
 
+  -- what is seen is what is committed
+  committed_as : (known : Bool) → (state g h).now ≡ (state g h).committed → AreCommitted (based_keeper g kinds known h)
+  committed_as known settled = record { meta = ap (λ (d : Database). d.trees 0) (sym settled); rec = ap (λ (d : Database). d.trees 1) (sym settled) }
+
   -- one that is left as it stood
   pub stood_by : (b : Based) → b ≡ based_keeper g kinds false h → ConnectionLasts (state g given) (state g h) → (IsTrue (state g h).is_open → IsTrue (state g given).is_open)
-      → (IsTrue (state g h).is_open → (state g h).now ≡ (state g given).now) → Stood g given b
-  stood_by b is lasts was same = subst (Stood g given) (sym is) (record { was_open = was; kept = λ opened. same_tables false (same opened); closes = lasts.closes; sure = λ law. law h.store })
+      → (IsTrue (state g h).is_open → (state g h).now ≡ (state g given).now) → (IsTrue (state g h).is_open → (state g h).now ≡ (state g h).committed) → Stood g given b
+  stood_by b is lasts was same settled = subst (Stood g given) (sym is) (record { was_open = was; kept = λ opened. same_tables false (same opened); settled = λ opened. committed_as false (settled opened); closes = lasts.closes; sure = λ law. law h.store })
+
+  -- one whose rows are known stands for what it tells
+  standing_of : (schema : List ℕ) → IsAllCommitted (length kinds) (state g h) → (IsTrue (state g h).is_open → schema_in (state g h).now ≡ schema) → IsTrue (state g h).is_open → IsStanding schema (based_keeper g kinds true h)
+  standing_of schema kept stored opened =
+      let it = kept.told_by opened in
+      record {
+        database = (state g h).now;
+        has = record { meta = refl; rec = refl };
+        stands = subst (λ (x : List ℕ). Stands x (state g h).now (told (length kinds) (state g h).now)) (sym (schema_stands it.schema (state g h).now (told (length kinds) (state g h).now) it.stands) ∙ stored opened) it.stands;
+        settled = committed_as true (kept.settled opened);
+      }
 
   -- a connection that is open was given with a disk that had returned what was written
   clean_as_given : ((state g h).is_clean ≡ false → (state g h).is_open ≡ false) → ConnectionLasts (state g given) (state g h) → IsTrue (state g h).is_open → HasCleanDisk (state g given)
@@ -147,12 +163,13 @@ module _ {S : Type 0} (g : Ghosts S) (kinds : List (List Kind)) (given h : Held 
 
   -- a new store
   pub begins_new : (schema : List ℕ) (nested : List Bool) → ((state g h).is_clean ≡ false → (state g h).is_open ≡ false) → ConnectionLasts (state g given) (state g h) → (state g given).now.schema ≡ no_tables → (IsTrue (state g h).is_open → IsTrue (state g given).is_open)
-      → (IsTrue (state g h).is_open → told (length kinds) (state g h).now ≡ empty_state (length kinds)) → (IsTrue (state g h).is_open → schema_in (state g h).now ≡ schema)
+      → IsAllCommitted (length kinds) (state g h) → (IsTrue (state g h).is_open → told (length kinds) (state g h).now ≡ empty_state (length kinds)) → (IsTrue (state g h).is_open → schema_in (state g h).now ≡ schema)
       → Begins g schema kinds nested given (based_keeper g kinds true h)
-  begins_new schema nested law lasts none was empty stored = record {
+  begins_new schema nested law lasts none was kept empty stored = record {
     tells = refl;
     fit = λ opened. fits_empty kinds nested _ (empty opened);
     stored = stored;
+    standing = standing_of schema kept stored;
     made = λ none opened. empty opened;
     kept = λ some. absurd (some none);
     same_state = λ some. absurd (some none);
@@ -170,6 +187,7 @@ module _ {S : Type 0} (g : Ghosts S) (kinds : List (List Kind)) (given h : Held 
     tells = refl;
     fit = whole.fit;
     stored = whole.stored;
+    standing = standing_of schema whole.kept whole.stored;
     made = λ none. absurd (some_tables (state g given).now.schema has none);
     kept = λ some opened. same_tables true (left.same opened);
     same_state = λ some opened. ap (told (length kinds)) (left.same opened);
@@ -179,6 +197,11 @@ module _ {S : Type 0} (g : Ghosts S) (kinds : List (List Kind)) (given h : Held 
     closes = lasts.closes;
     sure = λ law. law h.store;
   }
+
+-- one that nothing was done to
+pub stood_here : {S : Type 0} (g : Ghosts S) (kinds : List (List Kind)) (h : Held S) (b : Based) → b ≡ based_keeper g kinds false h → (IsTrue (state g h).is_open → (state g h).now ≡ (state g h).committed) → Stood g h b
+stood_here g kinds h b is settled =
+    stood_by g kinds h h b is (record { clean = omega arith; counts = omega arith; closes = λ clean opened. inl opened }) (λ opened. opened) (λ opened. refl) settled
 
 -- ---- from call to call
 

@@ -15,13 +15,14 @@ use Rattle.jac_keep.specs.declared.alteration.Change.{Change}
 use Rattle.jac_keep.specs.ChangedState.{changed_state}
 use Rattle.jac_keep.specs.Reshaping.{widened_state}
 use Rattle.jac_keep.specs.Schema.{IsFit, shapes_by}
+use Rattle.jac_sql_spec.specs.Stands.{Stands}
 use Rattle.jac_sql_spec.specs.Tables.{no_tables}
 use Rattle.jac_sql_spec.specs.Telling.{empty_state, IsAllCommitted}
 use Rattle.jac_sql_spec.specs.Told.{told, schema_in}
 
 -- the kinds of its models' fields, whether its connection is open, whether its disk has returned
 -- what was written and how often that failed, the schema text that it has, the rows of its two
--- tables, whether it tells its state, and its state
+-- tables, as they are seen and as they are committed, whether it tells its state, and its state
 pub record Based : Type 0 where
   pub kinds : List (List Kind)
   pub is_open : Bool
@@ -30,6 +31,8 @@ pub record Based : Type 0 where
   pub schema : List ℕ
   pub meta : List Values
   pub rec : List Values
+  pub committed_meta : List Values
+  pub committed_rec : List Values
   pub tells : Bool
   pub state : State
 
@@ -43,6 +46,8 @@ based_keeper g kinds known h = record {
   schema = schema_in (state g h).now;
   meta = (state g h).now.trees 0;
   rec = (state g h).now.trees 1;
+  committed_meta = (state g h).committed.trees 0;
+  committed_rec = (state g h).committed.trees 1;
   tells = known && (state g h).is_open;
   state = told (length kinds) (state g h).now;
 }
@@ -67,23 +72,39 @@ pub record HasTables (db : Tables) (b : Based) : Type 0 where
   pub meta : b.meta ≡ db.trees 0
   pub rec : b.rec ≡ db.trees 1
 
--- so they are, as long as the connection is open, which only a fault of the disk shuts
+-- the rows of both tables are committed as they are seen
+pub record AreCommitted (b : Based) : Type 0 where
+  pub meta : b.committed_meta ≡ b.meta
+  pub rec : b.committed_rec ≡ b.rec
+
+-- so they are, and they are committed, as long as the connection is open, which only a fault of the
+-- disk shuts
 pub record Stood {S : Type 0} (g : Ghosts S) (given : Held S) (b : Based) : Type 0 where
   pub was_open : IsTrue b.is_open → IsTrue (state g given).is_open
   pub kept : IsTrue b.is_open → HasTables (state g given).now b
+  pub settled : IsTrue b.is_open → AreCommitted b
   pub closes : doubt b.is_clean ≡ 0 → IsTrue (state g given).is_open
       → IsTrue b.is_open ⊎ Rose (state g given).faults b.faults
   pub sure : NeverShut g → IsTrue b.is_open
 
+-- the rows of both tables are well formed: they stand for the state that is told, with this schema
+-- text; and they are committed
+pub record IsStanding (schema : List ℕ) (b : Based) : Type 0 where
+  pub database : Tables
+  pub has : HasTables database b
+  pub stands : Stands schema database b.state
+  pub settled : AreCommitted b
+
 -- A store that may be called from now on: it has the schema, and tells its state, which fits the
--- schema, while its connection is open. Where there was no table at all it is made, empty and with
--- the number 1; else it is what stood there, by its rows and by what they tell. What stood there
--- was read from a disk that had returned what was written.
+-- schema, while its connection is open. Its rows are well formed and committed. Where there was no
+-- table at all it is made, empty and with the number 1; else it is what stood there, by its rows
+-- and by what they tell. What stood there was read from a disk that had returned what was written.
 pub record Begins {S : Type 0} (g : Ghosts S) (schema : List ℕ) (kinds : List (List Kind))
     (nested : List Bool) (given : Held S) (b : Based) : Type 0 where
   pub tells : b.tells ≡ b.is_open
   pub fit : IsTrue b.tells → IsFit (shapes_by kinds nested) b.state
   pub stored : IsTrue b.is_open → b.schema ≡ schema
+  pub standing : IsTrue b.is_open → IsStanding schema b
   pub made : (state g given).now.schema ≡ no_tables → IsTrue b.is_open
       → b.state ≡ empty_state (length kinds)
   pub kept : ¬ ((state g given).now.schema ≡ no_tables) → IsTrue b.is_open

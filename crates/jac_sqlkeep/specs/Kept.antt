@@ -97,6 +97,15 @@ IsLeftAs g Gives old new (Err Memory) =
     (new.refused ≡ old.refused) ⊎ IsSomeAnd new.refused (StoodAs g Gives)
 IsLeftAs g Gives old new (Err (Other stored)) = IsSomeAnd new.refused (StoodAs g Gives)
 
+-- what attaching that ended so lets know: the schema that is stored where it is another one, and
+-- else none; want of memory isn't counted
+abbrev pub LearnsSchema : Kept → Kept → Result (Unit {0}) AttachFault → Type 0
+LearnsSchema old new (Ok done) = ⊤
+LearnsSchema old new (Err Failed) = new.store.schema ≡ old.store.schema
+LearnsSchema old new (Err Memory) = (new.store.schema ≡ old.store.schema)
+    × (new.faults ≡ old.faults)
+LearnsSchema old new (Err (Other stored)) = new.store.schema ≡ Some stored
+
 -- the database of a keeper that is attached, before a call and after it
 abbrev pub KeeperGoesOn : {S : Type 0} → Ghosts S → Option Based → Option Based → Type 0
 KeeperGoesOn g None new = ⊤

@@ -53,6 +53,7 @@ impl<S: Alter> Database<S> {
     /// Opens what is stored for this schema, or makes it where the database has nothing. Another
     /// schema that is stored is told; its store, and what is no store, is left as it is, and
     /// nothing is known of it.
+    #[tactic(auto, using(crate::proofs::Based::stood_here))]
     pub fn open(
         alloc: Global,
         conn: Connection<S>,

@@ -13,7 +13,7 @@ ghost use Rattle.jac_keep.specs.Schema.{IsSchema, IsFit, shapes_by};
 ghost use Rattle.jac_keep.specs.Attaching.{Attaches};
 ghost use Rattle.jac_keep.specs.declared.vault.AttachFault.TheVariants.{Other};
 ghost use Rattle.jac_sqlkeep.specs.Based.{Based};
-ghost use Rattle.jac_sqlkeep.specs.Kept.{HasSchema, TellsSchema, IsRefusedAs, BeginsGiven, IsLeftAs, KeeperGoesOn};
+ghost use Rattle.jac_sqlkeep.specs.Kept.{HasSchema, TellsSchema, IsRefusedAs, BeginsGiven, IsLeftAs, LearnsSchema, KeeperGoesOn};
 
 use crate::Opener;
 use crate::cause::{Unfit, error_of, stop_of};
@@ -266,6 +266,7 @@ impl<O: Opener> Vault for SqlKeeper<O> {
     ghost use Rattle.jac_sqlkeep.specs.Kept.{seen_kept};
 
     /// A store that was made before is read and tested whole. What is no store is left as it is.
+    #[tactic(auto, using(crate::proofs::Attached::learns_failed))]
     fn attach(&mut self, alloc: Global, name: Option<&Txt>, schema: &Txt) -> Result<(), AttachFault>
         requires first { self.old.store.called ≡ false }
         requires schema { (shapes : List ModelShape) × IsSchema schema.now shapes }
@@ -278,6 +279,7 @@ impl<O: Opener> Vault for SqlKeeper<O> {
             (BeginsGiven O.Store.Store (O.gives (option_copied name.entry)) schema.now)) }
         ensures left { IsLeftAs O.Store.Store (O.gives (option_copied name.entry)) self.old self.new
             result }
+        ensures learns { LearnsSchema self.old self.new result }
     {
         self.called = true;
         let Ok(known) = known_of(alloc, name, schema) else {
@@ -380,6 +382,7 @@ impl<O: Opener> SqlKeeper<O> {
     fn fail(&mut self, database: Database<O::Store>, unfit: Unfit) -> AttachFault
         ensures later { self.old.faults ≤ self.new.faults }
         ensures rose { result ≡ AttachFault.Failed → Rose self.old.faults self.new.faults }
+        ensures uncounted { result ≡ AttachFault.Memory → self.new.faults ≡ self.old.faults }
         ensures other { (stored : List ℕ) → ¬ (result ≡ AttachFault.Other stored) }
         ensures same { self.new ≡ record self.old {
           faults = self.new.faults;
@@ -429,6 +432,7 @@ fn known_shape(alloc: Global, schema: &Txt) -> Result<Shape, Memory>
 
 fn fault_of(stop: Stop) -> AttachFault
     ensures failed { result ≡ AttachFault.Failed → stop ≡ Stop.Keeper }
+    ensures memory { result ≡ AttachFault.Memory → stop ≡ Stop.Memory }
     ensures other { (stored : List ℕ) → ¬ (result ≡ AttachFault.Other stored) }
 {
     match stop {
@@ -441,6 +445,7 @@ fn fault_of(stop: Stop) -> AttachFault
 fn counted(fault: AttachFault, faults: &mut u64) -> AttachFault
     ensures later { faults.old ≤ faults.new }
     ensures rose { result ≡ AttachFault.Failed → Rose faults.old faults.new }
+    ensures uncounted { result ≡ AttachFault.Memory → faults.new ≡ faults.old }
     ensures same { result ≡ fault }
 {
     if let AttachFault::Failed = &fault {

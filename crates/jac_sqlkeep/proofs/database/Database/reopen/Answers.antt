@@ -13,9 +13,9 @@ pub returns-in-Ok-Some : goal.returns-in-Ok-Some
 returns-in-Ok-Some g c =
     let read = rw c.in-Ok-Some.field-0-is at c.in-Ok-Some.ensures.read in
     let left = c.in-Ok-Some.ensures.left in
-    (read.0, rw c.untold.ensures read.1, stood_by g.S.Store c.args.shape.kinds c.args.conn c.read_whole.new.conn c.untold.result c.untold.ensures c.in-Ok-Some.ensures.lasts left.was_open left.same)
+    (read.0, rw c.untold.ensures read.1, stood_by g.S.Store c.args.shape.kinds c.args.conn c.read_whole.new.conn c.untold.result c.untold.ensures c.in-Ok-Some.ensures.lasts left.was_open left.same left.settled)
 
 pub returns-in-Err : goal.returns-in-Err
 returns-in-Err g c =
     let left = c.in-Err.ensures.left in
-    stood_by g.S.Store c.args.shape.kinds c.args.conn c.read_whole.new.conn c.untold-in-Err.result c.untold-in-Err.ensures c.in-Err.ensures.lasts left.was_open left.same
+    stood_by g.S.Store c.args.shape.kinds c.args.conn c.read_whole.new.conn c.untold-in-Err.result c.untold-in-Err.ensures c.in-Err.ensures.lasts left.was_open left.same left.settled

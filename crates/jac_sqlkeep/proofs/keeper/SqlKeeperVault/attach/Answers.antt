@@ -1,7 +1,7 @@
 use Rattle.std.proofs.Common.{◌≡◌, ap, subst, sym, ◌∙◌, List, Option, Some, None, Result, Ok, Err, rules, IsTrue, is_some, IsSomeAnd, arith}
 use Rattle.jac_sqlkeep.specs.Based.{Based}
 use Rattle.jac_sqlkeep.specs.Kept.{Kept}
-use Rattle.jac_sqlkeep.proofs.Attached.{attached_now, fit_now, begins_as, left_other, left_failed}
+use Rattle.jac_sqlkeep.proofs.Attached.{attached_now, fit_now, begins_as, left_other, left_failed, learns_other, learns_failed}
 use Rattle.jac_sqlkeep.proofs.keeper.SqlKeeperVault.attach.Goals as goal
 
 pub returns-in-Ok-None-clause-attaches : goal.returns-in-Ok-None-clause-attaches
@@ -34,3 +34,14 @@ pub returns-in-Err-told-clause-left : goal.returns-in-Err-told-clause-left
 returns-in-Err-told-clause-left g c =
     let is : c.open-database.result.1 ≡ Err c.in-Err-told.unfit = search rules in
     left_failed _ _ _ _ _ _ _ _ c.open-database.ensures c.in-Ok-open.ensures.gives c.args.self.now c.fail.new.self c.in-Err-told.unfit c.fail.result is (ap (λ (k : Kept). k.refused) c.fail.ensures.same)
+
+pub returns-in-Ok-Some-clause-learns : goal.returns-in-Ok-Some-clause-learns
+returns-in-Ok-Some-clause-learns g c =
+    learns_other c.args.self.now (record { store = _; faults = _; unopened = _; database = _; refused = c.self.inside.refused }) c.refuse.new.self c.open-database.result.0 c.in-Ok-Some.stored c.refuse.result
+    (ap (λ (k : Kept). k.store.schema) c.self.view_is) (ap (λ (k : Kept). k.faults) c.self.view_is) c.refuse.ensures.refused
+
+pub returns-in-Err-told-clause-learns : goal.returns-in-Err-told-clause-learns
+returns-in-Err-told-clause-learns g c =
+    learns_failed c.args.self.now c.fail.new.self c.fail.result
+    (ap (λ (k : Kept). k.store.schema) c.fail.ensures.same ∙ ap (λ (k : Kept). k.store.schema) c.self.view_is)
+    (λ memory. c.fail.ensures.uncounted memory ∙ ap (λ (k : Kept). k.faults) c.self.view_is) c.fail.ensures.other
