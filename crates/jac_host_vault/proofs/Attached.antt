@@ -1,5 +1,5 @@
 -- A vault that is attached by one of its keepers, and that is called in memory.
-use Rattle.std.proofs.Common.{◌≡◌, refl, ℕ, length, ◌≤◌, Bool, true, false, true≢false, List, Option, Some, None, Result, Ok, Err, OnOk, OnErr, IsErrOf, IsTrue, IsSomeAnd, sym, ap, ◌∙◌, subst, arith}
+use Rattle.std.proofs.Common.{◌≡◌, inl, refl, ℕ, length, ◌≤◌, Bool, true, false, true≢false, List, Option, Some, None, Result, Ok, Err, OnOk, OnErr, IsErrOf, IsTrue, IsSomeAnd, sym, ap, ◌∙◌, subst, arith}
 use Rattle.jac_io.specs.Faults.{Rose}
 use Rattle.jac_rows.specs.Good.{ModelShape, IsSound}
 use Rattle.jac_keep.specs.Cause.{HasCause}
@@ -15,11 +15,11 @@ use Rattle.jac_keep.specs.declared.vault.AttachFault.{AttachFault}
 use Rattle.jac_keep.specs.declared.vault.AttachFault.TheVariants.{Failed}
 use Rattle.sqlite_trees.specs.declared.store.Store.{Ghosts}
 use Rattle.sqlite.specs.Held.{Held}
-use Rattle.jac_sqlkeep.specs.Based.{Based}
+use Rattle.jac_sqlkeep.specs.Based.{Based, IsStanding}
 use Rattle.jac_sqlkeep.specs.Kept.{Kept, BeginsGiven}
 use Rattle.jac_reopen.specs.Reopened.{ReopenSeen, Supposed, seen_reopening, waiting_keeper}
 use Rattle.jac_host_vault.specs.Content.{IsFileOf}
-use Rattle.jac_host_vault.specs.HostSeen.{HostSeen, IsStorePlaced, seen_memory, seen_unfiled, seen_waiting, seen_one, seen_host, faults_with, store_with, IsHost}
+use Rattle.jac_host_vault.specs.HostSeen.{HostSeen, IsStorePlaced, IsStoreLeft, seen_memory, seen_unfiled, seen_waiting, seen_one, seen_host, faults_with, store_with, IsHost}
 
 -- ---- memory is called
 
@@ -246,11 +246,23 @@ module _ {V : Type 0} (s : Supposed) (seen : V → KeeperSeen) where
       let it = first_in h.alone h.misnamed h.memory h.file host first in
       (it.unfiled, ap (λ (k : KeeperSeen). k.tells) (sym (seen_then h new alone host first)))
 
+  -- ---- what is left where nothing is attached
+
+  -- no file was asked for, where the vault doesn't have what it was asked for
+  pub refused_left : (Leaves : Option (List ℕ) → V → Type 0) (h : HostSeen V) (name : Option (List ℕ)) → IsHost seen h → (seen_host s seen h).store.called ≡ false → IsStoreLeft Leaves name (record h { misnamed = true })
+  refused_left Leaves h None host first = (first_in h.alone h.misnamed h.memory h.file host first).unfiled
+  refused_left Leaves h (Some name) host first = inl (refl, (first_in h.alone h.misnamed h.memory h.file host first).unfiled)
+
+  -- nor where memory was
+  pub memory_left : (Leaves : Option (List ℕ) → V → Type 0) (h : HostSeen V) (new : KeeperState) (result : Result (Unit {0}) AttachFault) → IsHost seen h → (seen_host s seen h).store.called ≡ false → OnErr result (IsStoreLeft Leaves None (record h { memory = new }))
+  memory_left Leaves h new (Ok done) host first = tt
+  memory_left Leaves h new (Err e) host first = (first_in h.alone h.misnamed h.memory h.file host first).unfiled
+
 -- ---- a file that tells
 
-placed_at : {S : Type 0} (g : Ghosts S) (Gives : Held S → Type 0) (schema : List ℕ) (o : Option Based) → IsSomeAnd o (BeginsGiven g Gives schema) → IsSomeAnd o (λ (b : Based). (b.tells ≡ b.is_open) × (IsTrue b.is_open → b.schema ≡ schema))
+placed_at : {S : Type 0} (g : Ghosts S) (Gives : Held S → Type 0) (schema : List ℕ) (o : Option Based) → IsSomeAnd o (BeginsGiven g Gives schema) → IsSomeAnd o (λ (b : Based). (b.tells ≡ b.is_open) × (IsTrue b.is_open → b.schema ≡ schema) × (IsTrue b.is_open → IsStanding schema b))
 placed_at g Gives schema None begins = absurd begins
-placed_at g Gives schema (Some b) begins = (begins.begins.tells, begins.begins.stored)
+placed_at g Gives schema (Some b) begins = (begins.begins.tells, begins.begins.stored, begins.begins.standing)
 
 pub file_placed : {S : Type 0} (g : Ghosts S) (Gives : Held S → Type 0) (schema : List ℕ) (f : Kept) (result : Result (Unit {0}) AttachFault) → OnOk result (IsSomeAnd f.database (BeginsGiven g Gives schema)) → OnOk result (IsFileOf schema f)
 file_placed g Gives schema f (Ok done) begins = placed_at g Gives schema f.database begins

@@ -1,3 +1,4 @@
 pub mod Attached
 pub mod Found
+pub mod Left
 pub mod Telling

@@ -10,7 +10,7 @@ use Rattle.jac_keep.specs.Attaching.{IsNewStore}
 use Rattle.jac_keep.specs.Schema.{IsSchema}
 use Rattle.jac_sql_spec.specs.Tables.{no_tables}
 use Rattle.jac_sql_spec.specs.Told.{told, schema_in}
-use Rattle.jac_sqlkeep.specs.Based.{Based}
+use Rattle.jac_sqlkeep.specs.Based.{Based, IsStanding}
 use Rattle.jac_sqlkeep.specs.Kept.{Kept}
 use Rattle.jac_reopen.specs.Reopened.{Supposed}
 
@@ -50,7 +50,8 @@ abbrev pub IsFound : Supposed → List ℕ → Kept → Type 0
 IsFound s schema f = IsTrue s.known → IsSomeAnd f.database (λ (b : Based). IsTrue b.tells
     → IsAsSupposed s schema b.state)
 
--- a file whose database tells as long as its connection is open, and then has this schema
+-- a file whose database tells as long as its connection is open, and then has this schema, and rows
+-- that are well formed and committed
 abbrev pub IsFileOf : List ℕ → Kept → Type 0
 IsFileOf schema f = IsSomeAnd f.database (λ (b : Based). (b.tells ≡ b.is_open)
-    × (IsTrue b.is_open → b.schema ≡ schema))
+    × (IsTrue b.is_open → b.schema ≡ schema) × (IsTrue b.is_open → IsStanding schema b))

@@ -1,9 +1,9 @@
 -- the program's store, in memory or in a file
-use Rattle.std.specs.Prelude.{◌≡◌, ℕ, Bool, true, false, List, Option, Some, None, IfSome, IsSomeAnd, IsTrue}
+use Rattle.std.specs.Prelude.{◌≡◌, ◌⊎◌, ℕ, Bool, true, false, List, Option, Some, None, IfSome, IsSomeAnd, IsTrue}
 use Rattle.jac_io.specs.Faults.{one_more_fault}
 use Rattle.jac_keep.specs.KeeperSeen.{KeeperSeen, Store}
 use Rattle.jac_keep.specs.KeeperState.{KeeperState}
-use Rattle.jac_reopen.specs.Reopened.{ReopenSeen, Supposed, waiting_keeper, seen_reopening, GoesAlong, GivesUpAtFault}
+use Rattle.jac_reopen.specs.Reopened.{ReopenSeen, Supposed, waiting_keeper, seen_reopening, IsLeftUnattached, GoesAlong, GivesUpAtFault}
 
 -- the keeper in memory, and the one in a file, once that was attached; whether it has memory alone,
 -- or a file alone, and was asked in vain for the other
@@ -68,6 +68,21 @@ abbrev pub IsStorePlaced : {V : Type 0} → Supposed → (V → KeeperSeen) → 
 IsStorePlaced s seen Begins None schema h = (h.file ≡ None) × IsTrue (seen_host s seen h).tells
 IsStorePlaced {V} s seen Begins (Some name) schema h = IsSomeAnd h.file (λ (f : ReopenSeen V).
     (f.again ≡ None) × IsSomeAnd f.first (Begins schema))
+
+-- what is left where nothing is attached: without a name no file was asked for; else one was, and
+-- is left so, or the vault has memory alone, or opened its file before
+abbrev pub IsStoreLeft : {V : Type 0} → (Option (List ℕ) → V → Type 0) → Option (List ℕ)
+    → HostSeen V → Type 0
+IsStoreLeft Leaves None h = h.file ≡ None
+IsStoreLeft {V} Leaves (Some name) h = (IsTrue h.misnamed × (h.file ≡ None))
+    ⊎ IsSomeAnd h.file (λ (f : ReopenSeen V). (f.again ≡ None)
+    × IsSomeAnd f.first (Leaves (Some name)))
+
+-- so the file is left that was asked for, as long as it isn't attached
+abbrev pub LeavesFile : {V : Type 0} → (V → KeeperSeen) → (Option (List ℕ) → V → Type 0)
+    → HostSeen V → Type 0
+LeavesFile {V} seen Leaves h = IfSome h.file (λ (f : ReopenSeen V). IfSome f.first
+    (IsLeftUnattached seen Leaves))
 
 -- between two calls: a file stays what is called, and only a fault gives up the keeper that
 -- attached it, which goes on until then; memory stays, and what it is alone of

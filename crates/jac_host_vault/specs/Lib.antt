@@ -1,4 +1,5 @@
 pub mod HostSeen
 pub mod GoesOn
 pub mod Content
+pub mod Left
 pub mod Telling

@@ -1,9 +1,10 @@
-ghost use Rattle.std.specs.Prelude.{◌≡◌, List, OnOk, false};
+ghost use Rattle.std.specs.Prelude.{◌≡◌, ℕ, List, Err, OnOk, IsSomeAnd, false};
 ghost use Rattle.std.specs.Option.{option_copied};
 ghost use Rattle.jac_rows.specs.Good.{ModelShape};
 ghost use Rattle.jac_keep.specs.Attaching.{Attaches};
 ghost use Rattle.jac_keep.specs.Schema.{IsSchema};
-ghost use Rattle.jac_sqlkeep.specs.Kept.{seen_kept};
+ghost use Rattle.jac_keep.specs.declared.vault.AttachFault.TheVariants.{Other};
+ghost use Rattle.jac_sqlkeep.specs.Kept.{seen_kept, HasSchema, IsLeftAs, LearnsSchema};
 ghost use Rattle.jac_host_vault.specs.Content.{IsFileOf, IsFound};
 
 use crate::FileOpens;
@@ -124,7 +125,8 @@ impl<O: FileOpens> Keeper for FileKeeper<O> {
 }
 
 impl<O: FileOpens> Vault for FileKeeper<O> {
-    /// What is attached is what was supposed of the file, as long as it tells.
+    /// What is attached is what was supposed of the file, as long as it tells. What isn't stands as
+    /// it was opened.
     #[tactic(auto, using(crate::proofs::Attached::file_placed, crate::proofs::Found::file_found))]
     fn attach(&mut self, alloc: Global, name: Option<&Txt>, schema: &Txt) -> Result<(), AttachFault>
         requires first { self.old.store.called ≡ false }
@@ -133,6 +135,11 @@ impl<O: FileOpens> Vault for FileKeeper<O> {
             (option_copied name.entry) schema.now result }
         ensures begins { OnOk result (IsFileOf schema.now self.new) }
         ensures found { OnOk result (IsFound O.holds schema.now self.new) }
+        ensures other_stored { (stored : List ℕ) → result ≡ Err (Other stored)
+            → IsSomeAnd self.new.refused (HasSchema stored) }
+        ensures left { IsLeftAs O.Store.Store (O.Opener.gives (option_copied name.entry)) self.old
+            self.new result }
+        ensures learns { LearnsSchema self.old self.new result }
     {
         O::stand();
         self.keeper.attach(alloc, name, schema)

@@ -32,12 +32,15 @@ impl<O: FileOpens> FileMaker<O> {
 
 impl<O: FileOpens> VaultMaker for FileMaker<O> {
     ghost use Rattle.jac_host_vault.specs.Content.{IsFileOf};
+    ghost use Rattle.jac_host_vault.specs.Left.{IsFileLeft};
 
     type Vault = CachedKeeper<FileKeeper<O>>;
 
     ghost supposes = { O.holds };
 
     ghost begins = { IsFileOf };
+
+    ghost leaves = { λ name k. IsFileLeft O.Store.Store (O.Opener.gives name) k };
 
     /// Reports on standard error why a file is refused.
     fn attach(

@@ -1,10 +1,10 @@
-ghost use Rattle.std.specs.Prelude.{◌≡◌, None, [], List, OnOk, IsSome, true, false};
+ghost use Rattle.std.specs.Prelude.{◌≡◌, None, [], List, OnOk, OnErr, IsSome, true, false};
 ghost use Rattle.std.specs.Option.{option_copied};
 ghost use Rattle.jac_rows.specs.Good.{ModelShape};
 ghost use Rattle.jac_keep.specs.Attaching.{Attaches};
 ghost use Rattle.jac_keep.specs.KeeperState.{IsStored, unattached_store};
 ghost use Rattle.jac_keep.specs.Schema.{IsSchema};
-ghost use Rattle.jac_host_vault.specs.HostSeen.{IsStorePlaced};
+ghost use Rattle.jac_host_vault.specs.HostSeen.{IsStorePlaced, IsStoreLeft, LeavesFile};
 
 use jac_io::Calls;
 use jac_keep::{AttachFault, Change, Keeper, MemoryKeeper, Place, Stop, Vault};
@@ -101,6 +101,15 @@ impl<M: VaultMaker> HostVault<M> {
             misnamed: false,
             memory: MemoryKeeper::new(state, None, Calls::empty(alloc), Calls::empty(alloc)),
             file: None,
+        }
+    }
+
+    /// A law: where its file isn't attached, that is left as its maker says.
+    pub fn stand(&self)
+        ensures { LeavesFile M.Vault.Keeper.seen M.leaves self.now }
+    {
+        if let Some(file) = &self.file {
+            file.stand();
         }
     }
 
@@ -209,7 +218,7 @@ impl<M: VaultMaker> Vault for HostVault<M> {
 
     /// The store of a name is a file; without one it is in memory. Where it has the other one
     /// alone, it fails.
-    #[tactic(auto, using(crate::proofs::Attached::memory_first, crate::proofs::Attached::file_attached, crate::proofs::Attached::memory_attached, crate::proofs::Attached::host_of_memory, crate::proofs::Attached::name_refused, crate::proofs::Attached::placed_in, crate::proofs::Attached::memory_placed))]
+    #[tactic(auto, using(crate::proofs::Attached::memory_first, crate::proofs::Attached::file_attached, crate::proofs::Attached::memory_attached, crate::proofs::Attached::host_of_memory, crate::proofs::Attached::name_refused, crate::proofs::Attached::placed_in, crate::proofs::Attached::memory_placed, crate::proofs::Attached::refused_left, crate::proofs::Attached::memory_left, crate::proofs::Left::left_in))]
     fn attach(&mut self, alloc: Global, name: Option<&Txt>, schema: &Txt) -> Result<(), AttachFault>
         requires first { (seen_host M.supposes M.Vault.Keeper.seen self.old).store.called ≡ false }
         requires schema { (shapes : List ModelShape) × IsSchema schema.now shapes }
@@ -218,6 +227,7 @@ impl<M: VaultMaker> Vault for HostVault<M> {
             (option_copied name.entry) schema.now result }
         ensures placed { OnOk result (IsStorePlaced M.supposes M.Vault.Keeper.seen M.begins
             (option_copied name.entry) schema.now self.new) }
+        ensures left { OnErr result (IsStoreLeft M.leaves (option_copied name.entry) self.new) }
         ensures same { self.new.alone ≡ self.old.alone }
     {
         match name {

@@ -1,0 +1,19 @@
+-- what is left of a store's file that wasn't attached
+use Rattle.std.specs.Prelude.{◌≡◌, ◌⊎◌, ℕ, List, Some, None, IsSomeAnd}
+use Rattle.sqlite_trees.specs.declared.store.Store.{Ghosts}
+use Rattle.sqlite.specs.Held.{Held}
+use Rattle.jac_io.specs.Faults.{Rose}
+use Rattle.jac_sqlkeep.specs.Based.{Based}
+use Rattle.jac_sqlkeep.specs.Kept.{Kept, HasSchema, StoodAs}
+
+-- A file that wasn't attached stands as its opener gave it. Where another schema is known, it is
+-- the one that is stored there. Where none is known and a fault was counted, either the file was
+-- opened and is no store that can be read, or it wasn't opened. Else memory ran out.
+pub record IsFileLeft {S : Type 0} (g : Ghosts S) (Gives : Held S → Type 0) (k : Kept) : Type 0
+  where
+    pub other : (stored : List ℕ) → k.store.schema ≡ Some stored
+        → IsSomeAnd k.refused (λ (b : Based). StoodAs g Gives b × HasSchema stored b)
+    pub failed : k.store.schema ≡ None → Rose 0 k.faults
+        → Rose 0 k.unopened ⊎ IsSomeAnd k.refused (StoodAs g Gives)
+    pub stopped : k.store.schema ≡ None → k.faults ≡ 0
+        → (k.refused ≡ None) ⊎ IsSomeAnd k.refused (StoodAs g Gives)
