@@ -1,5 +1,5 @@
 -- Labels that are only added, and assignments that show the same of them.
-use Rattle.std.proofs.Common.{◌≡◌, refl, ◌∙◌, ◌==◌, ◌||◌, subst, sym, ℕ, Bool, true, false, List}
+use Rattle.std.proofs.Common.{◌≡◌, refl, ◌∙◌, ◌==◌, ◌||◌, subst, sym, ℕ, Bool, true, List}
 use Rattle.std.proofs.lemmas.Bool.{or_right}
 use Rattle.jac_world.specs.World.{shown_by, holds, names}
 use Rattle.jac_world.proofs.Contradict.{by_names}

@@ -1,5 +1,5 @@
 -- What a local policy reads of a local state: rows whose guards name labels of its own record alone.
-use Rattle.std.proofs.Common.{◌≡◌, refl, ap, sym, subst, ◌∙◌, ℕ, zero, suc, ◌+◌, ◌<◌, ◌==◌, Bool, true, false, not, ◌&&◌, ◌||◌, if◌then◌else◌, List, [], ◌∷◌, ◌++◌, length, take, drop, get_or, Option, None, Some, slice_get, unwrap_or, Result, Ok, Err, ℤ, pos, arith}
+use Rattle.std.proofs.Common.{◌≡◌, refl, ap, sym, subst, ◌∙◌, ℕ, zero, suc, ◌+◌, ◌<◌, ◌==◌, Bool, true, false, not, ◌&&◌, ◌||◌, if◌then◌else◌, List, [], ◌∷◌, ◌++◌, length, get_or, Option, None, Some, slice_get, unwrap_or, Result, Ok, Err, ℤ, pos, arith}
 use Rattle.std.specs.Prelude.{⊤, IsSomeAnd, IfOk}
 use Rattle.std.specs.List.{list_all, AllByRecursion}
 use Rattle.std.proofs.lemmas.Bool.{and_parts, and_from, or_right, or_left}
@@ -582,6 +582,13 @@ keep_last false a b h = h
 
 pub other_first : (f g a : Bool) → (f ≡ true → g ≡ true) → (f && a) ≡ true → (g && a) ≡ true
 other_first f g a h t = let p = and_parts f a t in and_from g a (h p.0) p.1
+
+-- a query whose binders range over free models
+pub ranges_free : (f a b l : Bool) → (f && ((a && b) && l)) ≡ true → ((f && a) && l) ≡ true
+ranges_free true true true l h = h
+ranges_free true true false l h = absurd cc
+ranges_free true false b l h = h
+ranges_free false a b l h = h
 
 -- free tuples bind free names
 pub bound_all : (app : Application) (bs : List Binder) (env : List Binding) (tuples : List (List ℕ)) → is_free_env app env ≡ true → list_all (are_free_ids app) tuples ≡ true →
