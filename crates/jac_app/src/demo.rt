@@ -37,7 +37,7 @@ use jac_dispatch::{AppDispatcher, ask_in, ready_answer, store_answer, viewer_in}
 use jac_events::{Event, LineFault, read_line};
 use jac_io::{AuditSink, Failed, Sink};
 use jac_keep::{Keeper, Stop, Vault};
-use jac_replies::{Answer, Ask, Spelling, audit_rest, fixed_of};
+use jac_replies::{Answer, Ask, LabelTexts, Spelling, audit_rest, fixed_of};
 use jac_route::Sessions;
 use jac_serve_events::{put_failed_audit, put_numbered};
 use jac_value::{Bytes, Id, Memory, Txt, first_part};
@@ -408,6 +408,7 @@ fn serve_over<U: AuditSink, K: Vault, L: Ledger, M: Ledger>(
         sessions: &sessions,
         viewer_caches: &mut viewer_caches,
         lazy: false,
+        label_texts: LabelTexts::none(alloc),
     };
     serve_calendar(&mut dispatcher, count, audit)
 }

@@ -14,7 +14,7 @@ use jac_connections::Halt;
 use jac_dispatch::AppDispatcher;
 use jac_io::{AuditSink, Link};
 use jac_keep::Keeper;
-use jac_replies::Spelling;
+use jac_replies::{LabelTexts, Spelling};
 use jac_route::Sessions;
 use jac_viewer_caches::ViewerCaches;
 use jac_world::Steps;
@@ -64,6 +64,7 @@ pub fn serve_link<N: Link, U: AuditSink, K: Keeper, L: Ledger, M: Ledger>(
         sessions,
         viewer_caches: &mut viewer_caches,
         lazy,
+        label_texts: LabelTexts::none(alloc),
     };
     jac_connections::serve_link(&mut dispatcher, conn, first, link, audit)
 }

@@ -18,7 +18,7 @@ use jac_command_base::{ExitReason, Opened, StoreCommand, open_store};
 use jac_dispatch::AppDispatcher;
 use jac_io::{AuditSink, Files, Sink};
 use jac_keep::Vault;
-use jac_replies::Spelling;
+use jac_replies::{LabelTexts, Spelling};
 use jac_serve_events::{ReplayError, serve_events};
 use jac_value::Bytes;
 use jac_viewer_caches::ViewerCaches;
@@ -101,6 +101,7 @@ fn serve_over<O: Sink, U: AuditSink, K: Vault, L: Ledger, M: Ledger>(
         sessions: &served.opened.sessions,
         viewer_caches: &mut viewer_caches,
         lazy: served.lazy,
+        label_texts: LabelTexts::none(served.alloc),
     };
     serve_script(&mut dispatcher, &served.opened.events, out, audit)
 }

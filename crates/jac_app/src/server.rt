@@ -19,7 +19,7 @@ use jac_connections::{DoorHalt, Tally, serve_links};
 use jac_dispatch::AppDispatcher;
 use jac_io::{AuditSink, Door, Failed, Files, Sink};
 use jac_keep::{Keeper, Vault};
-use jac_replies::Spelling;
+use jac_replies::{LabelTexts, Spelling};
 use jac_serve_events::put_five;
 use jac_viewer_caches::ViewerCaches;
 use jac_world::Steps;
@@ -156,6 +156,7 @@ fn serve_over<O: Sink, U: AuditSink, K: Vault, D: Door, L: Ledger, M: Ledger>(
         sessions: &served.opened.sessions,
         viewer_caches: &mut viewer_caches,
         lazy: serving.lazy,
+        label_texts: LabelTexts::none(served.alloc),
     };
     serve_door(&mut dispatcher, serving, out, audit, door)
 }

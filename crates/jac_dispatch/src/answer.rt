@@ -23,7 +23,7 @@ use crate::handler::AppDispatcher;
 use jac_engine::{Prepared, PreparedWithCache, commit, prepare, prepare_with_cache};
 use jac_keep::{Keeper, Stop};
 use jac_policy_cache::{Invalidation, ViewerCache};
-use jac_replies::{Answer, Ask, Spelling, audit_rest, is_head, reply_line, sent_reply};
+use jac_replies::{Answer, Ask, LabelTexts, Spelling, is_head, reply_line, sent_reply};
 use jac_resolve::{cache_moves, covered_by_nothing, empty_cache_is_valid};
 use jac_value::{Bytes, Id, Memory, Txt};
 use jac_viewer_caches::ViewerCaches;
@@ -86,6 +86,7 @@ fn reply_via(alloc: Global, via: RequestSource, ask: &Ask, answer: &Answer) -> R
 
 fn make_lines(
     alloc: Global,
+    label_texts: &mut LabelTexts,
     via: RequestSource,
     ask: &Ask,
     answer: &Answer,
@@ -100,10 +101,10 @@ fn make_lines(
         answer.now.consulted) }
 {
     let reply = reply_via(alloc, via, ask, answer)?;
-    let audit = audit_rest(
+    let audit = label_texts.audit_rest(
         alloc,
         answer.status,
-        ask.viewer,
+        &ask.viewer,
         &answer.shown,
         &answer.consulted,
     )?;
@@ -195,7 +196,13 @@ fn answer_over_caches<K: Keeper, L: Ledger, M: Ledger>(
     ensures same { whose dispatcher.new ≡ whose dispatcher.old }
 {
     let ready = ready_answer(dispatcher, ask)?;
-    let lines = make_lines(dispatcher.alloc, via, ask, &ready.prepared.answer)?;
+    let lines = make_lines(
+        dispatcher.alloc,
+        &mut dispatcher.label_texts,
+        via,
+        ask,
+        &ready.prepared.answer,
+    )?;
     store_answer(dispatcher, ask, ready)?;
     Ok(lines)
 }

@@ -23,7 +23,7 @@ use jac_app_load::Service;
 use jac_http::{Fixed, Request};
 use jac_hub::{Handler, Heard, Hub, HubOut, Sent};
 use jac_keep::{Keeper, Stop};
-use jac_replies::{Spelling, audit_rest, fixed_of, is_head, refusal_reply, text_bytes};
+use jac_replies::{LabelTexts, Spelling, audit_rest, fixed_of, is_head, refusal_reply, text_bytes};
 use jac_route::Sessions;
 use jac_serve_events::{AskOutcome, Dispatch};
 use jac_value::{Bytes, Memory, Txt};
@@ -48,6 +48,8 @@ pub struct AppDispatcher<'k, 's, 'e, 'a, 'b, 't, K: Keeper, L: Ledger, M: Ledger
     pub lazy: bool,
     /// The caches of viewers.
     pub viewer_caches: &'t mut ViewerCaches,
+    /// The labels of the last audit lines, as texts.
+    pub label_texts: LabelTexts,
 }
 
 impl<K: Keeper, L: Ledger, M: Ledger> Drop for AppDispatcher<'_, '_, '_, '_, '_, '_, K, L, M> {
@@ -66,6 +68,7 @@ impl<K: Keeper, L: Ledger, M: Ledger> Drop for AppDispatcher<'_, '_, '_, '_, '_,
             sessions: _,
             lazy: _,
             viewer_caches: _,
+            label_texts: _,
         } = self;
     }
 }

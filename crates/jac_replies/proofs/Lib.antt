@@ -1,2 +1,3 @@
 mod Escaping
+pub mod Longer
 pub mod FailedLemmas

@@ -14,7 +14,7 @@ use jac_world::{Assignment, Label};
 use std::alloc::Global;
 
 // Bytes that a line has beside those that it quotes, with room for some of their escapes.
-const LINE_ROOM: usize = 64;
+pub(crate) const LINE_ROOM: usize = 64;
 
 /// How the bytes of a reply on a connection are spelled.
 #[derive(Clone, Copy, PartialEq, Eq)]
@@ -167,7 +167,7 @@ pub fn audit_rest(
     Ok(Txt::from_string(line))
 }
 
-fn put_head(status: u16, viewer: Option<Id>, to: &mut String) -> Result<(), Memory>
+pub(crate) fn put_head(status: u16, viewer: Option<Id>, to: &mut String) -> Result<(), Memory>
     ensures { OnOk result (string_bytes to.new ≡ string_bytes to.old ++ (codes " " ++ decimal status
         ++ codes " " ++ viewer_text viewer ++ codes " ")) }
 {
@@ -180,7 +180,7 @@ fn put_head(status: u16, viewer: Option<Id>, to: &mut String) -> Result<(), Memo
     Ok(())
 }
 
-fn put_number(number: u128, to: &mut String) -> Result<(), Memory>
+pub(crate) fn put_number(number: u128, to: &mut String) -> Result<(), Memory>
     ensures { OnOk result (string_bytes to.new ≡ string_bytes to.old ++ decimal number) }
 {
     let mut digits = Buffer::new();
@@ -209,7 +209,7 @@ fn put_shown(shown: &Option<Assignment>, to: &mut String) -> Result<(), Memory>
 }
 
 // Nothing, or ` of CONSULTED`.
-fn put_consulted(consulted: &Option<Assignment>, to: &mut String) -> Result<(), Memory>
+pub(crate) fn put_consulted(consulted: &Option<Assignment>, to: &mut String) -> Result<(), Memory>
     ensures { OnOk result (string_bytes to.new ≡ string_bytes to.old
         ++ consulted_text consulted.now) }
 {
@@ -238,7 +238,7 @@ fn put_labels(labels: &Assignment, to: &mut String) -> Result<(), Memory>
 }
 
 // Each label after a comma.
-fn put_more(labels: &[Label], to: &mut String) -> Result<(), Memory>
+pub(crate) fn put_more(labels: &[Label], to: &mut String) -> Result<(), Memory>
     ensures { OnOk result (string_bytes to.new ≡ string_bytes to.old ++ more_labels labels.now) }
 {
     let mut digits = Buffer::new();
