@@ -47,7 +47,8 @@ impl LabelText {
     /// Adds the text of these labels. Where they begin with those of the last call, the others
     /// alone are written.
     pub fn put(&mut self, labels: &[Label], to: &mut String) -> Result<(), Memory>
-        ensures { OnOk result (string_bytes to.new ≡ string_bytes to.old ++ more_labels labels.now) }
+        ensures { OnOk result (string_bytes to.new ≡ string_bytes to.old
+            ++ more_labels labels.now) }
     {
         follow(&mut self.labels, &mut self.text, labels)?;
         to.push_str(self.text.as_str())?;

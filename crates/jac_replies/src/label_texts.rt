@@ -66,7 +66,8 @@ impl LabelTexts {
         shown: &Option<Assignment>,
         to: &mut String,
     ) -> Result<(), Memory>
-        ensures { OnOk result (string_bytes to.new ≡ string_bytes to.old ++ shown_text shown.now) }
+        ensures { OnOk result (string_bytes to.new ≡ string_bytes to.old
+            ++ shown_text shown.now) }
     {
         match shown {
             None => to.push_str("nopage")?,
@@ -82,7 +83,8 @@ impl LabelTexts {
         labels: &Assignment,
         to: &mut String,
     ) -> Result<(), Memory>
-        ensures { OnOk result (string_bytes to.new ≡ string_bytes to.old ++ labels_text labels.now) }
+        ensures { OnOk result (string_bytes to.new ≡ string_bytes to.old
+            ++ labels_text labels.now) }
     {
         match labels.as_slice().split_first() {
             None => to.push_str("-")?,
@@ -102,7 +104,8 @@ impl LabelTexts {
         labels: &[Label],
         to: &mut String,
     ) -> Result<(), Memory>
-        ensures { OnOk result (string_bytes to.new ≡ string_bytes to.old ++ more_labels labels.now) }
+        ensures { OnOk result (string_bytes to.new ≡ string_bytes to.old
+            ++ more_labels labels.now) }
     {
         if labels.len() < FEW {
             return put_more(labels, to);
