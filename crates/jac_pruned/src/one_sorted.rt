@@ -1,24 +1,29 @@
 //! The records of one binder in the order of a field.
-ghost use Rattle.std.specs.Prelude.{◌≡◌, [], ◌∷◌, ◌++◌, ℕ, Bool, true, List, Some, map, IfOk, OnOk, IsTrue};
+ghost use Rattle.std.specs.Prelude.{◌≡◌, ◌<◌, [], ◌∷◌, ◌++◌, ℕ, Bool, true, List, Some, length, map, IfOk, IfSome, OnOk, IsTrue};
 ghost use Rattle.jac_value.specs.declared.value.Value.TheVariants as value;
 ghost use Rattle.jac_world.specs.World.{shown_by};
-ghost use Rattle.jac_lang.specs.Lookup.{same_text};
+ghost use Rattle.jac_lang.specs.Lookup.{fields_at, same_text};
+ghost use Rattle.jac_lang.specs.Mirror.{application_of};
+ghost use Rattle.jac_rows.specs.Project.{project_at};
 ghost use Rattle.jac_keep.specs.WorkState.{state_of, IsTold, ReadsWork};
 ghost use Rattle.jac_plain.specs.Expressions.{key_of, ordered_tuples, sorted_tuples};
 ghost use Rattle.jac_plain.specs.World.{got};
 ghost use Rattle.jac_query.specs.Sorted.{sorted_by, value_less};
+ghost use Rattle.jac_pruned.specs.Columns.{column_got};
 ghost use Rattle.jac_pruned.specs.Consulted.{Agrees, Grows};
 ghost use Rattle.jac_pruned.specs.OneSorted.{SortsBinder, id_less, keyed_each};
 ghost use Rattle.jac_pruned.specs.Seen.{seen_at};
 ghost use Rattle.jac_pruned.specs.Tupled.{lengthened_tuples};
 
 use crate::Support;
+use crate::column::{Column, column_named};
 use crate::order::compare;
-use crate::reading::get;
+use crate::reading::read_of;
 use crate::world_context::WorldContext;
 use jac_keep::{Keeper, Stop, Work};
 use jac_lang::{Binder, Order};
 use jac_value::{Id, Memory, Txt, Value};
+use jac_world::Assignment;
 use std::alloc::Global;
 
 /// Whether the order is that in which records are found, or by a field of this binder.
@@ -90,7 +95,7 @@ fn sort_by_field<K: Keeper>(
     Ok(plain)
 }
 
-// Each id with the field of its record.
+// Each id with the field of its record. The field is found by its name once.
 fn keyed_ids<K: Keeper>(
     work: &mut Work<'_, K>,
     at: &WorldContext<'_>,
@@ -107,13 +112,41 @@ fn keyed_ids<K: Keeper>(
     ensures reads { ReadsWork K.seen work.old work.new result }
     ensures grows { Grows support.old support.new }
 {
-    let mut keyed = Vec::new(work.alloc);
+    let column = column_named(at.app, model, field);
+    let mut keyed = Vec::with_capacity(work.alloc, ids.len())?;
     'ids: for id in ids {
-        let record = Value::Ref(Some(*id));
-        let key = get(work, at, model, field, &record, support)?;
+        let key = key_in(work, at.assignment, &column, *id, support)?;
         keyed.push((*id, key))?;
     }
     Ok(keyed)
+}
+
+// The cell of the record in the column, or 0 without one.
+fn key_in<K: Keeper>(
+    work: &mut Work<'_, K>,
+    a: &Assignment,
+    column: &Option<Column<'_>>,
+    id: Id,
+    support: &mut Support,
+) -> Result<Value, Stop>
+    requires attached { IsTrue (K.seen work.old.keeper.now).store.attached }
+    requires model { IfSome column.now (λ c. c.model < length c.app.now.models) }
+    requires field { IfSome column.now (λ c. c.field < length
+        (fields_at (application_of c.app.now).models c.model)) }
+    ensures value { IsTold K.seen work.new → IfOk result (λ v. (w : ℕ → Bool)
+        → Agrees support.new (shown_by a.now) w
+        → v ≡ column_got (project_at w (state_of K.seen work.old)).tables column.now
+        (value.Ref (Some id))) }
+    ensures reads { ReadsWork K.seen work.old work.new result }
+    ensures grows { Grows support.old support.new }
+{
+    match column {
+        Some(column) => {
+            let key = read_of(work, a, column, id, support)?;
+            Ok(key)
+        }
+        None => Ok(Value::Int(0)),
+    }
 }
 
 fn sort_keyed_ids(keyed: Vec<(Id, Value)>, down: bool) -> Result<Vec<(Id, Value)>, Memory>
@@ -127,7 +160,7 @@ fn sort_keyed_ids(keyed: Vec<(Id, Value)>, down: bool) -> Result<Vec<(Id, Value)
 fn plain_ids(alloc: Global, keyed: &[(Id, Value)]) -> Result<Vec<Id>, Memory>
     ensures { IfOk result (λ js. js.items ≡ map (λ p. p.0) keyed.now) }
 {
-    let mut ids = Vec::new(alloc);
+    let mut ids = Vec::with_capacity(alloc, keyed.len())?;
     'keyed: for pair in keyed {
         ids.push(pair.0)?;
     }

@@ -10,19 +10,18 @@ ghost use Rattle.jac_rows.specs.Project.{project_at};
 ghost use Rattle.jac_rows.specs.Tables.{rows_of};
 ghost use Rattle.jac_keep.specs.WorkState.{state_of, IsTold, ReadsWork};
 ghost use Rattle.jac_plain.specs.Pieces.{piece_of};
-ghost use Rattle.jac_plain.specs.World.{cell_of, got, got_of, record_with, referred_record};
+ghost use Rattle.jac_plain.specs.World.{cell_of, got, record_with, referred_record};
 ghost use Rattle.jac_pruned.specs.Buffers.{buffer_of, buffer_with};
 ghost use Rattle.jac_pruned.specs.Columns.{absent_in};
 ghost use Rattle.jac_pruned.specs.Consulted.{Agrees, Grows};
 ghost use Rattle.jac_pruned.specs.Seen.{seen_at};
 
 use crate::Support;
-use crate::column::{Column, absent_of};
+use crate::column::{Column, absent_of, column_named};
 use crate::page_buffer::PageBuffer;
 use crate::reading::{read_one, shown_cell};
 use crate::world_context::WorldContext;
 use jac_keep::{Keeper, Stop, Work};
-use jac_lang::{field_of, model_of};
 use jac_plain::Form;
 use jac_value::{Id, Memory, Txt, Value, id_model};
 use jac_world::Assignment;
@@ -54,45 +53,8 @@ pub(crate) fn add_got<K: Keeper>(
     ensures reads { ReadsWork K.seen work.old work.new result }
     ensures grows { Grows support.old support.new }
 {
-    match model_of(at.app, cell.model) {
-        Some(place) => {
-            add_got_of(work, at, place, cell, value, page, support)?;
-            Ok(())
-        }
-        None => {
-            page.add(work.alloc, cell.form, &Value::Int(0))?;
-            Ok(())
-        }
-    }
-}
-
-// The same where the model stands at this place.
-fn add_got_of<K: Keeper>(
-    work: &mut Work<'_, K>,
-    at: &WorldContext<'_>,
-    model: u8,
-    cell: &PageCell<'_>,
-    value: &Value,
-    page: &mut PageBuffer,
-    support: &mut Support,
-) -> Result<(), Stop>
-    requires attached { IsTrue (K.seen work.old.keeper.now).store.attached }
-    requires model { model < length at.now.app.now.models }
-    ensures piece { IsTold K.seen work.new → OnOk result ((w : ℕ → Bool)
-        → Agrees support.new (shown_by at.now.assignment.now) w
-        → buffer_of page.new ≡ buffer_with (piece_of cell.now.form
-        (got_of (seen_at at.now (state_of K.seen work.old) w) (Some model) cell.now.field.now
-        value.now)) (buffer_of page.old)) }
-    ensures reads { ReadsWork K.seen work.old work.new result }
-    ensures grows { Grows support.old support.new }
-{
-    match field_of(at.app, model, cell.field) {
-        Some(place) => {
-            let column = Column {
-                app: at.app,
-                model,
-                field: place,
-            };
+    match column_named(at.app, cell.model, cell.field) {
+        Some(column) => {
             add_one(
                 work,
                 at.assignment,

@@ -1,4 +1,4 @@
-use Rattle.std.proofs.Common.{rules, ◌+◌, ◌∙◌, ap, ℕ, Some, drop}
+use Rattle.std.proofs.Common.{rules, ◌+◌, ◌∙◌, ap, refl, ℕ, Some, drop}
 use Rattle.std.proofs.lemmas.List.{drop_all}
 use Rattle.jac_value.specs.declared.value.Value.{Value}
 use Rattle.jac_value.specs.declared.value.Value.TheVariants as value
@@ -25,7 +25,9 @@ ids-preserved g c =
             let key : State → ℕ → Value = λ s j. got (seen_at c.args.at.now s w) c.args.model.now c.args.field.now (value.Ref (Some j)) in
             each_more (key (state_of g.K.Keeper.seen c.args.work.now)) c.ids.keyed.items c.push.new.self.items id c.in_ok-key.key
             (drop i ids) (drop (i + 1) ids) ids (next ids id i c.id-item.is c.ids-test.true) (search rules)
-            (c.in_ok-key.ensures.value told w agree ∙ ap (λ s. key s id) (before.read.same.same_state before_told))
+            (c.in_ok-key.ensures.value told w agree
+            ∙ c.column_named-column.ensures.got (seen_at c.args.at.now (state_of g.K.Keeper.seen c.ids.work) w) refl (value.Ref (Some id))
+            ∙ ap (λ s. key s id) (before.read.same.same_state before_told))
             (before.read.told before_told w (agrees_less _ _ _ _ c.in_ok-key.ensures.grows agree));
         same = search rules;
       };

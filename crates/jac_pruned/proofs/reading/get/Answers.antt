@@ -1,6 +1,5 @@
-use Rattle.std.proofs.Common.{◌∙◌, ap}
+use Rattle.std.proofs.Common.{◌∙◌, ap, refl}
 use Rattle.jac_keep.specs.WorkState.{state_of}
-use Rattle.jac_plain.specs.World.{got_of}
 use Rattle.jac_pruned.specs.Seen.{seen_at}
 use Rattle.jac_pruned.specs.Own.{reads_own, table_at}
 use Rattle.jac_pruned.proofs.reading.get.Goals as goal
@@ -8,7 +7,11 @@ use Rattle.jac_pruned.proofs.reading.get.Goals as goal
 pub returns-in_ok-read-in-Some-clause-value : goal.returns-in_ok-read-in-Some-clause-value
 returns-in_ok-read-in-Some-clause-value g c told w agree =
     c.in_ok-read-in-Some.ensures.value told w agree
-    ∙ ap (λ place. got_of (seen_at c.args.at.now (state_of g.K.Keeper.seen c.args.work.now) w) place c.args.field.now c.args.value.now) c.in-Some.ensures.place
+    ∙ c.in-Some.ensures.got (seen_at c.args.at.now (state_of g.K.Keeper.seen c.args.work.now) w) refl c.args.value.now
+
+pub returns-in-None-clause-value : goal.returns-in-None-clause-value
+returns-in-None-clause-value g c told w agree =
+    c.in-None.ensures.got (seen_at c.args.at.now (state_of g.K.Keeper.seen c.args.work.now) w) refl c.args.value.now
 
 pub returns-in_ok-read-in-Some-clause-own : goal.returns-in_ok-read-in-Some-clause-own
 returns-in_ok-read-in-Some-clause-own g c told this reads own =
