@@ -398,6 +398,7 @@ fn serve_over<U: AuditSink, K: Vault, L: Ledger, M: Ledger>(
 {
     let sessions = Sessions::empty(alloc);
     let mut viewer_caches = ViewerCaches::none(alloc);
+    let mut label_texts = LabelTexts::none(alloc);
     let mut dispatcher = AppDispatcher {
         keeper: vault,
         splits,
@@ -408,7 +409,7 @@ fn serve_over<U: AuditSink, K: Vault, L: Ledger, M: Ledger>(
         sessions: &sessions,
         viewer_caches: &mut viewer_caches,
         lazy: false,
-        label_texts: LabelTexts::none(alloc),
+        label_texts: &mut label_texts,
     };
     serve_calendar(&mut dispatcher, count, audit)
 }

@@ -54,6 +54,7 @@ pub fn serve_link<N: Link, U: AuditSink, K: Keeper, L: Ledger, M: Ledger>(
     ensures attached { (K.seen keeper.new).store ≡ (K.seen keeper.old).store }
 {
     let mut viewer_caches = ViewerCaches::none(alloc);
+    let mut label_texts = LabelTexts::none(alloc);
     let mut dispatcher = AppDispatcher {
         keeper,
         splits,
@@ -64,7 +65,7 @@ pub fn serve_link<N: Link, U: AuditSink, K: Keeper, L: Ledger, M: Ledger>(
         sessions,
         viewer_caches: &mut viewer_caches,
         lazy,
-        label_texts: LabelTexts::none(alloc),
+        label_texts: &mut label_texts,
     };
     jac_connections::serve_link(&mut dispatcher, conn, first, link, audit)
 }

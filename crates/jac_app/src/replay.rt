@@ -91,6 +91,7 @@ fn serve_over<O: Sink, U: AuditSink, K: Vault, L: Ledger, M: Ledger>(
     ensures store { (K.seen vault.new).store ≡ (K.seen vault.old).store }
 {
     let mut viewer_caches = ViewerCaches::none(served.alloc);
+    let mut label_texts = LabelTexts::none(served.alloc);
     let mut dispatcher = AppDispatcher {
         keeper: vault,
         splits,
@@ -101,7 +102,7 @@ fn serve_over<O: Sink, U: AuditSink, K: Vault, L: Ledger, M: Ledger>(
         sessions: &served.opened.sessions,
         viewer_caches: &mut viewer_caches,
         lazy: served.lazy,
-        label_texts: LabelTexts::none(served.alloc),
+        label_texts: &mut label_texts,
     };
     serve_script(&mut dispatcher, &served.opened.events, out, audit)
 }

@@ -146,6 +146,7 @@ fn serve_over<O: Sink, U: AuditSink, K: Vault, D: Door, L: Ledger, M: Ledger>(
 {
     let serving = served.serving;
     let mut viewer_caches = ViewerCaches::none(served.alloc);
+    let mut label_texts = LabelTexts::none(served.alloc);
     let mut dispatcher = AppDispatcher {
         keeper: vault,
         splits,
@@ -156,7 +157,7 @@ fn serve_over<O: Sink, U: AuditSink, K: Vault, D: Door, L: Ledger, M: Ledger>(
         sessions: &served.opened.sessions,
         viewer_caches: &mut viewer_caches,
         lazy: serving.lazy,
-        label_texts: LabelTexts::none(served.alloc),
+        label_texts: &mut label_texts,
     };
     serve_door(&mut dispatcher, serving, out, audit, door)
 }

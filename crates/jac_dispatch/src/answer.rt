@@ -198,7 +198,7 @@ fn answer_over_caches<K: Keeper, L: Ledger, M: Ledger>(
     let ready = ready_answer(dispatcher, ask)?;
     let lines = make_lines(
         dispatcher.alloc,
-        &mut dispatcher.label_texts,
+        dispatcher.label_texts,
         via,
         ask,
         &ready.prepared.answer,

@@ -49,7 +49,7 @@ pub struct AppDispatcher<'k, 's, 'e, 'a, 'b, 't, K: Keeper, L: Ledger, M: Ledger
     /// The caches of viewers.
     pub viewer_caches: &'t mut ViewerCaches,
     /// The labels of the last audit lines, as texts.
-    pub label_texts: LabelTexts,
+    pub label_texts: &'t mut LabelTexts,
 }
 
 impl<K: Keeper, L: Ledger, M: Ledger> Drop for AppDispatcher<'_, '_, '_, '_, '_, '_, K, L, M> {
