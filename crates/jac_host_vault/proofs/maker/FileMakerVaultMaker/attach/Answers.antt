@@ -10,5 +10,6 @@ returns-clause-attaches g c =
 pub returns-clause-left : goal.returns-clause-left
 returns-clause-left g c =
     let from = c.new-file.ensures in
-    file_left _ _ c.attach-attached.new.self c.attach-attached.result (rw from at c.attach-attached.ensures.left) (rw from at c.attach-attached.ensures.learns) c.attach-attached.ensures.other_stored
-    (rw from at c.attach-attached.ensures.attaches).rose
+    rw c.new.ensures
+    (file_left _ _ c.attach-attached.new.self c.attach-attached.result (rw from at c.attach-attached.ensures.left) (rw from at c.attach-attached.ensures.learns) c.attach-attached.ensures.other_stored
+    (rw from at c.attach-attached.ensures.attaches).rose)
