@@ -1,2 +1,1 @@
 mod Promised
-mod Refused

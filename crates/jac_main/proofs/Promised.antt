@@ -6,14 +6,11 @@ use Rattle.jac_headline.proofs.Visits.{served_faithfully}
 use Rattle.jac_reopen.specs.Reopened.{Supposed}
 use Rattle.jac_main.specs.Start.{BeginsSupposed}
 use Rattle.jac_main.specs.Promise.{KeepsPromise}
-use Rattle.jac_main.proofs.Refused.{refused_other}
-use Rattle.jac_run_laws.specs.Replayed.{counts_of}
 
 pub promised : {L : Type 0} (s : Supposed) (words : List (List ℕ)) (top : TopRun L) → BeginsSupposed s words top.seen.keeper.before → IsTopRun words top → KeepsPromise s words top
 promised s words top begins ran = record {
   begins = begins;
   ran = ran;
-  refused = λ is. refused_other top.line top.seen top.door (counts_of top) words begins.unattached top.status ran.ran.out ran.ran.audit is ran.ran.holds;
   replays = λ replay given is held told. headline words replay given top ran is held told;
   serves = λ serving is told. served_faithfully words serving top ran is told;
 }

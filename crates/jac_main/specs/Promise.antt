@@ -1,5 +1,5 @@
 -- What a run of the program keeps: the contract of the top call, and the promise that follows.
-use Rattle.std.specs.Prelude.{◌≡◌, ℕ, false, Some, List}
+use Rattle.std.specs.Prelude.{◌≡◌, ℕ, Some, List}
 use Rattle.jac_io.specs.Linked.{LinkSeen, DoorSeen}
 use Rattle.jac_serve_events.specs.Outside.{Span}
 use Rattle.jac_cli.specs.Words.{command_of}
@@ -8,8 +8,6 @@ use Rattle.jac_cli.specs.declared.words.Replay.{Replay}
 use Rattle.jac_cli.specs.declared.words.ServeArgs.{ServeArgs}
 use Rattle.jac_command_base.specs.Files.{Sight}
 use Rattle.jac_command_base.specs.declared.status.Status.{Status}
-use Rattle.jac_command_base.specs.declared.status.Status.TheVariants as statuses
-use Rattle.jac_keep.specs.KeeperSeen.{KeeperSeen}
 use Rattle.jac_run_laws.specs.Replayed.{TopRun, IsTopRun, IsToldToEnd}
 use Rattle.jac_reopen.specs.Reopened.{Supposed}
 use Rattle.jac_main.specs.Start.{BeginsSupposed}
@@ -26,20 +24,12 @@ top_run line seen door splits evaluations status = record {
   status = status;
 }
 
--- no store is attached, and this schema is known of the one that was refused
-pub record KnowsOther (k : KeeperSeen) : Type 0 where
-  pub unattached : k.store.attached ≡ false
-  pub stored : List ℕ
-  pub schema : k.store.schema ≡ Some stored
-
--- its store begins empty, or as its file is supposed to; the contract of the top call holds; one
--- that ends because of another schema has attached no store; a replay or a serve that is told to
--- its end is faithful
+-- its store begins empty, or as its file is supposed to; the contract of the top call holds; a
+-- replay or a serve that is told to its end is faithful
 pub record KeepsPromise {L : Type 0} (s : Supposed) (words : List (List ℕ)) (top : TopRun L) :
     Type 0 where
   pub begins : BeginsSupposed s words top.seen.keeper.before
   pub ran : IsTopRun words top
-  pub refused : top.status ≡ statuses.OtherStore → KnowsOther top.seen.keeper.after
   pub replays : (replay : Replay) (given : Given)
       → command_of words ≡ Some (commands.Replay replay)
       → HoldGiven top.seen.files.before.file replay given

@@ -8,7 +8,6 @@ ghost use Rattle.jac_host.specs.Links.{door_seen};
 ghost use Rattle.jac_serve_events.specs.Outside.{span};
 ghost use Rattle.jac_command_base.specs.Files.{sight};
 ghost use Rattle.jac_main.specs.Promise.{KeepsPromise, top_run};
-ghost use Rattle.jac_host_vault.specs.HostSeen.{LeavesFile};
 ghost use Rattle.jac_main.specs.Start.{BeginsSupposed, has_file};
 
 use jac_app::{Status, run};
@@ -17,7 +16,6 @@ use jac_host::{HostAudit, HostDoor, HostFiles, HostLink, Outside, Stdout, Unknow
 use jac_host_vault::{FileMaker, FileOpens, HostOpener, HostVault};
 use jac_io::{Door, Failed, Files, Link, Sink};
 use jac_keep::Keeper;
-use jac_reopen::VaultMaker;
 use jac_rows::{State, Tables};
 use jac_value::{Memory, Txt};
 use jac_world::Steps;
@@ -110,7 +108,7 @@ fn run_host<O: Outside, F: FileOpens, L: Ledger, M: Ledger>(
         ≡ false }
     requires begins { BeginsSupposed F.holds words.now
         (⟦<HostVault<FileMaker<F>> as Keeper>⟧.seen vault.old) }
-    ensures promise { KeepsPromise F.holds words.now (top_run ⟦<HostLink<O> as Link>⟧.seen
+    ensures { KeepsPromise F.holds words.now (top_run ⟦<HostLink<O> as Link>⟧.seen
         (sight (files_seen O.file [] 0) (⟦<HostFiles<'static, O> as Files>⟧.seen host.new.files)
         (sink_seen [] 0) (⟦<Stdout<'static> as Sink>⟧.seen host.new.out)
         (sink_seen [] 0) (⟦<HostAudit<'static> as Sink>⟧.seen host.new.audit)
@@ -118,10 +116,8 @@ fn run_host<O: Outside, F: FileOpens, L: Ledger, M: Ledger>(
         (⟦<HostVault<FileMaker<F>> as Keeper>⟧.seen vault.new))
         (span (door_seen O.inputs [] [] 0) (⟦<HostDoor<'static, O> as Door>⟧.seen host.new.door))
         (span splits.old splits.new) (span evaluations.old evaluations.new) result) }
-    ensures left { LeavesFile ⟦<FileMaker<F> as VaultMaker>⟧.Vault.Keeper.seen
-        ⟦<FileMaker<F> as VaultMaker>⟧.leaves vault.new }
 {
-    let status = run(
+    run(
         alloc,
         words,
         &mut host.files,
@@ -131,9 +127,7 @@ fn run_host<O: Outside, F: FileOpens, L: Ledger, M: Ledger>(
         &mut host.door,
         splits,
         evaluations,
-    );
-    vault.stand();
-    status
+    )
 }
 
 // The store that these words ask for: in memory, which holds nothing and tells so from now on,
