@@ -2,6 +2,7 @@ pub mod Alone
 pub mod Beginning
 pub mod Bound
 pub mod Buffering
+pub mod Compared
 pub mod Going
 pub mod Growing
 pub mod Joining

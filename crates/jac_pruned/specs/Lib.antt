@@ -2,6 +2,7 @@ pub mod Alike
 pub mod Begun
 pub mod Buffers
 pub mod Columns
+pub mod Comparisons
 pub mod Consulted
 pub mod Local
 pub mod OneSorted

@@ -9,6 +9,7 @@ mod binding;
 mod candidate;
 mod choice;
 mod column;
+mod comparison;
 mod evaluation;
 mod kept_names;
 mod one_sorted;
