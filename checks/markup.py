@@ -9,7 +9,7 @@ Chromium, under the policy of content below, the largest page of each kind is no
 no short word there, and its style sheet and a form work.
 
 Words: the program. With --pictures FOLDER it writes a picture of each of these pages there, as a desktop and as a phone
-show it. What needs Debian's python3-html5lib, tidy or chromium is skipped where that isn't installed. Prints each case
+show it. What needs Debian's python3-html5lib, tidy, chromium or a font is skipped where that isn't installed. Prints each case
 that fails, and ends with a count."""
 import argparse
 import base64
@@ -506,7 +506,17 @@ def installed(quick):
     else:
         lacking.append('tidy')
     chromium = None if quick else next(filter(None, map(shutil.which, browser.NAMES)), None)
-    return tools, chromium, lacking + ([] if chromium else ['chromium'])
+    if not chromium:
+        return tools, None, lacking + ['chromium']
+    if not has_font():
+        return tools, None, lacking + ['chromium, which has no font,']
+    return tools, chromium, lacking
+
+
+def has_font():
+    """Whether fontconfig finds a font: without one Chromium shows no text, so that its pages have another width."""
+    lister = shutil.which('fc-list')
+    return lister is None or bool(subprocess.run([lister], capture_output=True, check=False).stdout.strip())
 
 
 def main():

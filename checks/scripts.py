@@ -1,7 +1,7 @@
 #!/usr/bin/env python3
-"""Asks each script of tools/, checks/ and checks/bench for help, and gives it a flag that it doesn't know. Help ends with
-status 0 and a text that begins with `usage: `, the flag is refused with status 2, both within ten seconds; and nothing is
-begun: no process is left, and no file is written. No words. Prints each that fails, and ends with a count.
+"""Asks each script of tools/, checks/, checks/bench and deploy/ for help, and gives it a flag that it doesn't know. Help
+ends with status 0 and a text that begins with `usage: `, the flag is refused with status 2, both within ten seconds; and
+nothing is begun: no process is left, and no file is written. No words. Prints each that fails, and ends with a count.
 
 The scripts are a copy's, so that one that begins its work at once finds no crates, and what it writes is seen. A script is
 a file with a line `if __name__ == '__main__':`. Each check of checks/list.txt has to be one."""
@@ -25,6 +25,7 @@ UNKNOWN = '--no-such-flag'
 OF_A_COMMAND = 'jac begins it, and all words behind the program are those of a command'
 # scripts that only other ones begin, and why they have words of another kind
 OTHERS = {
+    'deploy/explain.py': "its words are those of the unit's ExecStart",
     'tools/fault_place.py': OF_A_COMMAND,
     'tools/parts.py': 'the trial has it called in the place of clang, and its words are those of clang',
     'tools/run_folder.py': OF_A_COMMAND,
@@ -34,7 +35,7 @@ OTHERS = {
 
 def scripts(top):
     """The paths of the scripts, from the top."""
-    for folder in 'tools', 'checks', 'checks/bench':
+    for folder in 'tools', 'checks', 'checks/bench', 'deploy':
         for path in sorted(glob.glob(os.path.join(top, folder, '*.py'))):
             with open(path, encoding='utf-8') as file:
                 if MAIN.search(file.read()):
@@ -91,7 +92,7 @@ def asked(top, script, flag, want):
 def answers(found):
     """What is wrong with what the scripts answer, and with what they write."""
     with tempfile.TemporaryDirectory() as top, concurrent.futures.ThreadPoolExecutor(processors()) as pool:
-        for folder in 'tools', 'checks', 'docs':
+        for folder in 'tools', 'checks', 'docs', 'deploy':
             shutil.copytree(os.path.join(TOP, folder), os.path.join(top, folder))
         before = files(top)
         yield from pool.map(lambda words: asked(top, *words),

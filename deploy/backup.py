@@ -1,8 +1,10 @@
 #!/usr/bin/env python3
-"""Copies a store while jac serves it, and tests the copy. Words: the store's file, and a file that isn't there yet.
+"""Copies a store while jac serves it, and tests the copy.
+
 jac has the database locked, so that no program reads it through SQLite meanwhile; but its file changes only now and
 then, and what it commits goes behind the end of the log beside it. So both are copied, and again where either was begun
 anew meanwhile; SQLite then takes from the copied log what was whole, and makes one file of both."""
+import argparse
 import os
 import shutil
 import sqlite3
@@ -49,7 +51,13 @@ def join(copy, target):
 
 
 def main():
-    store, target = sys.argv[1:]
+    words = argparse.ArgumentParser(description=__doc__, formatter_class=argparse.RawDescriptionHelpFormatter)
+    words.add_argument('store', help="the store's file")
+    words.add_argument('target', help="the file for the copy, which isn't there yet")
+    words = words.parse_args()
+    store, target = words.store, words.target
+    if not os.path.exists(store):
+        sys.exit("%s isn't there" % store)
     if os.path.exists(target):
         sys.exit('%s is there already' % target)
     folder = os.path.dirname(os.path.abspath(target))
@@ -66,4 +74,5 @@ def main():
         os.rename(made, target)
 
 
-main()
+if __name__ == '__main__':
+    main()
