@@ -28,7 +28,6 @@ use jac_lazy::LazyPage;
 use jac_plain::Page;
 use jac_policy_cache::{Invalidation, ViewerCache};
 use jac_replies::{Answer, Ask};
-use jac_resolve::empty_cache_is_valid;
 use jac_route::{Found, Routes, find};
 use jac_value::Memory;
 use jac_world::Steps;
@@ -53,100 +52,23 @@ pub struct PreparedWithCache {
     pub invalidation: Option<Invalidation>,
 }
 
-// How the labels of a page are found.
+/// How the labels of a page are found.
 #[derive(Drop)]
-struct Manner {
-    // Of a GET's page only those are resolved that it consults.
-    lazy: bool,
-    // The cache of the viewer.
-    cache: ViewerCache,
+pub struct Manner {
+    /// For the page of a `GET` only the labels are resolved that are consulted for it. The cache
+    /// isn't used then, and stays as it is.
+    pub lazy: bool,
+    /// The cache of the viewer.
+    pub cache: ViewerCache,
 }
 
 /// Answers the request on what the keeper keeps, and changes nothing. The labels of a page are
-/// settled for the viewer: on the stored state for a GET, on the state after it for a POST. Where
-/// `lazy` is set, those of a GET's page are steady for the viewer instead, and only labels were
+/// settled for the viewer: on the stored state for a GET, on the state after it for a POST. Stale
+/// labels of the viewer's cache are settled again, and no policy is asked whose answer is cached.
+/// If `lazy` is set, those of a GET's page are steady for the viewer instead, and only labels were
 /// resolved that the page and their policies consulted. Each policy that is asked counts in
 /// `evaluations`.
 pub fn prepare<K: Keeper, L: Ledger, M: Ledger>(
-    alloc: Global,
-    service: &Service,
-    keeper: &mut K,
-    ask: &Ask,
-    lazy: bool,
-    splits: &mut Steps<L>,
-    evaluations: &mut Steps<M>,
-) -> Result<Prepared, Stop>
-    requires attached { IsTrue (K.seen keeper.old).store.attached }
-    requires start { IsTrue (K.seen keeper.old).tells
-        → IsStart (application_of service.now) (K.seen keeper.old).state }
-    ensures prepared { IfOk result (IsPrepared lazy (K.seen keeper.new).tells
-        (application_of service.now) (K.seen keeper.old).state ask.now) }
-    ensures bounded { IfOk result (AsksFew lazy (K.seen keeper.new).tells
-        (application_of service.now) (K.seen keeper.old).state ask.now.viewer None
-        evaluations.old evaluations.new) }
-    ensures unsplit { IfOk result (λ p. IsNone p.change → splits.new ≡ splits.old) }
-    ensures reading { stores (application_of service.now) ask.now ≡ false
-        → splits.new ≡ splits.old }
-    ensures reads { Reads (K.seen keeper.old) (K.seen keeper.new) result }
-{
-    empty_cache_is_valid();
-    let cache = ViewerCache::empty(alloc);
-    let manner = Manner { lazy, cache };
-    let valid = prepare_by(alloc, service, keeper, ask, manner, splits, evaluations)?;
-    Ok(prepared_of(valid))
-}
-
-fn prepared_of(valid: PreparedWithCache) -> Prepared
-    ensures { result ≡ valid.prepared }
-{
-    let PreparedWithCache {
-        prepared,
-        cache: _,
-        invalidation: _,
-    } = valid;
-    prepared
-}
-
-/// The same without `lazy`, over the viewer's cache: stale labels are settled again, and no policy
-/// is asked whose answer is remembered.
-pub fn prepare_with_cache<K: Keeper, L: Ledger, M: Ledger>(
-    alloc: Global,
-    service: &Service,
-    keeper: &mut K,
-    ask: &Ask,
-    cache: ViewerCache,
-    splits: &mut Steps<L>,
-    evaluations: &mut Steps<M>,
-) -> Result<PreparedWithCache, Stop>
-    requires attached { IsTrue (K.seen keeper.old).store.attached }
-    requires start { IsTrue (K.seen keeper.old).tells
-        → IsStart (application_of service.now) (K.seen keeper.old).state }
-    requires valid { IsTrue (K.seen keeper.old).tells
-        → IsValidCache (application_of service.now) (worlds_of (K.seen keeper.old).state)
-        ask.now.viewer cache }
-    ensures prepared { IfOk result (λ r. IsPrepared false (K.seen keeper.new).tells
-        (application_of service.now) (K.seen keeper.old).state ask.now r.prepared) }
-    ensures valid { IsTrue (K.seen keeper.new).tells → IfOk result (λ r. IsValidCache
-        (application_of service.now)
-        (worlds_of (applied_if r.prepared.change (K.seen keeper.old).state))
-        ask.now.viewer r.cache) }
-    ensures affected { IsTrue (K.seen keeper.new).tells → IfOk result (λ r. IsInvalidationOf
-        (application_of service.now) (K.seen keeper.old).state r.prepared.change r.invalidation) }
-    ensures bounded { IfOk result (λ r. AsksFew false (K.seen keeper.new).tells
-        (application_of service.now) (K.seen keeper.old).state ask.now.viewer cache.labels
-        evaluations.old evaluations.new r.prepared) }
-    ensures unsplit { IfOk result (λ r. IsNone r.prepared.change → splits.new ≡ splits.old) }
-    ensures reading { stores (application_of service.now) ask.now ≡ false
-        → splits.new ≡ splits.old }
-    ensures reads { Reads (K.seen keeper.old) (K.seen keeper.new) result }
-{
-    let manner = Manner { lazy: false, cache };
-    let valid = prepare_by(alloc, service, keeper, ask, manner, splits, evaluations)?;
-    Ok(valid)
-}
-
-// The same in either manner.
-fn prepare_by<K: Keeper, L: Ledger, M: Ledger>(
     alloc: Global,
     service: &Service,
     keeper: &mut K,

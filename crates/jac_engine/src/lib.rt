@@ -7,4 +7,4 @@ mod parameters;
 mod refusal;
 mod visit;
 
-pub use answer::{Prepared, PreparedWithCache, commit, prepare, prepare_with_cache};
+pub use answer::{Manner, Prepared, PreparedWithCache, commit, prepare};

@@ -1,17 +1,11 @@
 use Rattle.jac_lang.specs.Mirror.{application_of}
+use Rattle.jac_engine.proofs.PreparedLaws.{is_prepared}
 use Rattle.jac_engine.proofs.answer.prepare.Goals as goal
-use Rattle.jac_plain.specs.Shown.{worlds_of}
-
-pub prepare_by-requires-clause-valid : goal.prepare_by-requires-clause-valid
-prepare_by-requires-clause-valid g c = λ told.
-    c.empty_cache_is_valid.ensures (application_of c.args.service.now) (worlds_of (g.K.Keeper.seen c.args.keeper.now).state) c.args.ask.now.viewer c.empty-cache.result c.empty-cache.ensures
 
 pub returns-clause-prepared : goal.returns-clause-prepared
-returns-clause-prepared g c = rw c.prepared_of.ensures c.in_ok-valid.ensures.prepared
-
-pub returns-clause-unsplit : goal.returns-clause-unsplit
-returns-clause-unsplit g c = rw c.prepared_of.ensures c.in_ok-valid.ensures.unsplit
-
-pub returns-clause-bounded : goal.returns-clause-bounded
-returns-clause-bounded g c =
-    rw c.prepared_of.ensures (record { few = λ eager told none. c.in_ok-valid.ensures.bounded.few eager told c.empty-cache.ensures.labels })
+returns-clause-prepared g c =
+    let K = g.K.Keeper in
+    let tells = (K.seen c.prepare_found.new.keeper).tells in
+    let state = (K.seen c.args.keeper.now).state in
+    is_prepared c.args.manner.lazy tells (application_of c.args.service.now) state c.args.ask.now c.in_ok-valid.valid.prepared c.app-app.ensures.served c.app-app.ensures.few
+    (λ told. c.requires.start (c.in_ok-valid.ensures.reads.left.told told)) c.in_ok-valid.ensures.prepared
