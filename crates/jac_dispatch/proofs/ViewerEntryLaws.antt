@@ -1,5 +1,5 @@
 -- What is kept for those who looked, after an answer.
-use Rattle.std.proofs.Common.{◌≡◌, ap, sym, subst, ℕ, Bool, IsTrue, IfSome, ◌⊎◌, inl, inr, Option, Some, None, List, []}
+use Rattle.std.proofs.Common.{◌≡◌, ap, sym, subst, ℕ, Bool, IsTrue, ◌⊎◌, inl, inr, Option, Some, None, List, []}
 use Rattle.jac_lang.specs.Syntax.{Application}
 use Rattle.jac_rows.specs.Good.{IsGood}
 use Rattle.jac_rows.specs.Project.{project_at}
@@ -16,12 +16,13 @@ use Rattle.jac_resolve.specs.Rounds.{AreFewEvaluations}
 use Rattle.jac_resolve.specs.ValidCache.{IsValidCache}
 use Rattle.jac_replies.specs.declared.answer.Ask.{Ask}
 use Rattle.jac_engine.specs.Answers.{IsAnswerTo, world_left}
-use Rattle.jac_engine.specs.Prepared.{IsPrepared, applied_if}
+use Rattle.jac_engine.specs.Prepared.{IsInvalidationOf, IsPrepared, KeepsCache, applied_if}
 use Rattle.jac_engine.specs.Start.{IsStart}
 use Rattle.jac_engine.specs.declared.answer.Prepared.{Prepared}
+use Rattle.jac_engine.specs.declared.answer.PreparedWithCache.{PreparedWithCache}
 use Rattle.jac_viewer_caches.specs.CacheEntries.{IsOneOf, entry_of}
 use Rattle.jac_viewer_caches.specs.declared.viewer_caches.ViewerEntry.{ViewerEntry}
-use Rattle.jac_dispatch.specs.Answered.{DispatcherOf, AreValidCaches, AreAffected, AreInvalidatedIf, HasNoCache, HasCache, AsksFewAtFirst, AreKeptFor, IsPutBack}
+use Rattle.jac_dispatch.specs.Answered.{DispatcherOf, AreValidCaches, AreInvalidatedIf, HasNoCache, HasCache, AsksFewAtFirst, AreKeptFor}
 use Rattle.jac_plain.specs.Shown.{worlds_of}
 
 none_in : {P : Type 0} (s : ViewerEntry) (viewer_caches : List ViewerEntry) → viewer_caches ≡ [] → IsOneOf s viewer_caches → P
@@ -31,14 +32,17 @@ none_in s viewer_caches none is = let nothing : ⊥ = subst (λ (xs : List Viewe
 pub none_settled : (app : Application) (k : KeeperSeen) (viewer_caches : List ViewerEntry) → viewer_caches ≡ [] → AreValidCaches app k viewer_caches
 none_settled app k viewer_caches none = record { each = λ told s is. none_in s viewer_caches none is }
 
--- what is settled for who asks is so for a dispatcher that is whose it was, on the state that it
--- was
-pub still_valid : (was is : DispatcherOf) (a b : KeeperSeen) (change : Option Change) (viewer : Option ℕ) (cache : Option ViewerCache) → is ≡ was → (IsTrue b.tells → b.state ≡ a.state)
-    → (IsTrue b.tells → IfSome cache (IsValidCache was.app (worlds_of (applied_if change a.state)) viewer))
-    → IsTrue b.tells → IfSome cache (IsValidCache is.app (worlds_of (applied_if change b.state)) viewer)
-still_valid was is a b change viewer cache same left valid told =
-    subst (λ (of : DispatcherOf). IfSome cache (IsValidCache of.app (worlds_of (applied_if change b.state)) viewer)) (sym same)
-    (subst (λ (s : State). IfSome cache (IsValidCache was.app (worlds_of (applied_if change s)) viewer)) (sym (left told)) (valid told))
+-- what was kept for an answer is so for a dispatcher that is whose it was, on the state that it was
+pub still_kept : (was is : DispatcherOf) (a b : KeeperSeen) (viewer : Option ℕ) (it : PreparedWithCache) → is ≡ was → (IsTrue b.tells → b.state ≡ a.state)
+    → KeepsCache b.tells was.app a.state viewer it → KeepsCache b.tells is.app b.state viewer it
+still_kept was is a b viewer it same left kept = record {
+  valid = λ told.
+      subst (λ (of : DispatcherOf). IsValidCache of.app (worlds_of (applied_if it.prepared.change b.state)) viewer it.cache) (sym same)
+      (subst (λ (s : State). IsValidCache was.app (worlds_of (applied_if it.prepared.change s)) viewer it.cache) (sym (left told)) (kept.valid told));
+  affected = λ told.
+      subst (λ (of : DispatcherOf). IsInvalidationOf of.app b.state it.prepared.change it.invalidation) (sym same)
+      (subst (λ (s : State). IsInvalidationOf was.app s it.prepared.change it.invalidation) (sym (left told)) (kept.affected told));
+}
 
 -- fewer are kept, on the same state
 pub fewer_valid : (app : Application) (a b : KeeperSeen) (before after : List ViewerEntry)
@@ -74,18 +78,15 @@ module _ (moves : (app : Application) (worlds later : Worlds) (viewer : Option �
     (nothing : (app : Application) (worlds : Worlds) (viewer : Option ℕ) (invalidation : Invalidation) → IsCovered app worlds worlds invalidation viewer)
     (app : Application) (s : State) where
   affected_twice : (change : Option Change) (invalidation : Option Invalidation) (old new : List ViewerEntry)
-      → AreAffected app s change invalidation old → AreInvalidatedIf invalidation old new → IsKept app s old → (x : ViewerEntry) → IsOneOf x new → IsValidTwice app s (applied_if change s) x
-  affected_twice change None old new (inl none) same kept x is = none_in x old none (subst (λ (xs : List ViewerEntry). IsOneOf x xs) same is)
-  affected_twice None None old new (inr affected) same kept x is =
+      → IsInvalidationOf app s change invalidation → AreInvalidatedIf invalidation old new → IsKept app s old → (x : ViewerEntry) → IsOneOf x new → IsValidTwice app s (applied_if change s) x
+  affected_twice None None old new affected same kept x is =
       let it = kept x (subst (λ (xs : List ViewerEntry). IsOneOf x xs) same is) in record { before = it; behind = it }
-  affected_twice (Some change) None old new (inr affected) same kept x is = absurd affected
-  affected_twice change (Some invalidation) old new (inl none) invalidated kept x is =
-      let was = invalidated.each x is in none_in (entry_of x.viewer was.before) old none was.kept
-  affected_twice None (Some invalidation) old new (inr affected) invalidated kept x is =
+  affected_twice (Some change) None old new affected same kept x is = absurd affected
+  affected_twice None (Some invalidation) old new affected invalidated kept x is =
       let was = invalidated.each x is in
       let it = moves app (worlds_of s) (worlds_of s) x.viewer invalidation was.before x.cache (kept (entry_of x.viewer was.before) was.kept) was.invalidated (nothing app (worlds_of s) x.viewer invalidation) in
       record { before = it; behind = it }
-  affected_twice (Some change) (Some invalidation) old new (inr affected) invalidated kept x is =
+  affected_twice (Some change) (Some invalidation) old new affected invalidated kept x is =
       let was = invalidated.each x is in
       let it = kept (entry_of x.viewer was.before) was.kept in
       record {
@@ -93,25 +94,20 @@ module _ (moves : (app : Application) (worlds later : Worlds) (viewer : Option �
         behind = moves app (worlds_of s) (worlds_of (applied_if (Some change) s)) x.viewer invalidation was.before x.cache it was.invalidated (affected x.viewer);
       }
 
-put_valid : (app : Application) (worlds : Worlds) (viewer : Option ℕ) (cache : Option ViewerCache) (x : ViewerEntry) → IsPutBack viewer cache x → IfSome cache (IsValidCache app worlds viewer)
-    → IsValidCache app worlds x.viewer x.cache
-put_valid app worlds viewer None x put valid = absurd put
-put_valid app worlds viewer (Some cache) x put valid = subst (λ (y : ViewerEntry). IsValidCache app worlds y.viewer y.cache) (sym put) valid
-
 -- after a change that was stored, or refused
 module _ (moves : (app : Application) (worlds later : Worlds) (viewer : Option ℕ) (invalidation : Invalidation) (old new : ViewerCache) → IsValidCache app worlds viewer old → Invalidates invalidation viewer old new → IsCovered app worlds later invalidation viewer → IsValidCache app later viewer new)
     (nothing : (app : Application) (worlds : Worlds) (viewer : Option ℕ) (invalidation : Invalidation) → IsCovered app worlds worlds invalidation viewer)
     (app : Application) (a b : KeeperSeen) (change : Option Change) (invalidation : Option Invalidation) (old mid : List ViewerEntry)
-    (told : IsTrue b.tells → IsTrue a.tells) (affected : IsTrue a.tells → AreAffected app a.state change invalidation old)
+    (told : IsTrue b.tells → IsTrue a.tells) (affected : IsTrue a.tells → IsInvalidationOf app a.state change invalidation)
     (invalidated : AreInvalidatedIf invalidation old mid) (valid : AreValidCaches app a old) where
-  pub stored_valid : (viewer : Option ℕ) (cache : Option ViewerCache) (after : List ViewerEntry) → (IsTrue b.tells → b.state ≡ applied_if change a.state)
-      → (IsTrue a.tells → IfSome cache (IsValidCache app (worlds_of (applied_if change a.state)) viewer))
-      → ((x : ViewerEntry) → IsOneOf x after → IsPutBack viewer cache x ⊎ IsOneOf x mid) → AreValidCaches app b after
+  pub stored_valid : (viewer : Option ℕ) (cache : ViewerCache) (after : List ViewerEntry) → (IsTrue b.tells → b.state ≡ applied_if change a.state)
+      → (IsTrue a.tells → IsValidCache app (worlds_of (applied_if change a.state)) viewer cache)
+      → ((x : ViewerEntry) → IsOneOf x after → (x ≡ entry_of viewer cache) ⊎ IsOneOf x mid) → AreValidCaches app b after
   stored_valid viewer cache after applied own put = record {
     each = λ tells x is.
         subst (λ (t : State). IsValidCache app (worlds_of t) x.viewer x.cache) (sym (applied tells))
         (elim (put x is) [
-          | inl it ↦ put_valid app (worlds_of (applied_if change a.state)) viewer cache x it (own (told tells))
+          | inl put ↦ subst (λ (y : ViewerEntry). IsValidCache app (worlds_of (applied_if change a.state)) y.viewer y.cache) (sym put) (own (told tells))
           | inr was ↦ (affected_twice moves nothing app a.state change invalidation old mid (affected (told tells)) invalidated (valid.each (told tells)) x was).behind
         ]);
   }
@@ -147,9 +143,6 @@ few_stored lazy told tells app s later viewer viewer_caches before mid now telli
 
 -- ---- for whom something is kept
 
-pub kept_none : (viewer : Option ℕ) (before after : List ViewerEntry) → after ≡ [] → AreKeptFor viewer before after
-kept_none viewer before after none = record { each = λ s is. none_in s after none is }
-
 pub kept_fewer : (viewer : Option ℕ) (before after : List ViewerEntry) → ((s : ViewerEntry) → IsOneOf s after → IsOneOf s before) → AreKeptFor viewer before after
 kept_fewer viewer before after fewer = record { each = λ s is. inr (s.cache, fewer s is) }
 
@@ -168,22 +161,18 @@ kept_invalidated viewer (Some invalidation) old new invalidated = record {
       inr (was.before, was.kept);
 }
 
-kept_put : (viewer : Option ℕ) (cache : Option ViewerCache) (s : ViewerEntry) → IsPutBack viewer cache s → s.viewer ≡ viewer
-kept_put viewer None s put = absurd put
-kept_put viewer (Some cache) s put = ap (λ (x : ViewerEntry). x.viewer) put
-
 -- after a change that was stored, or refused
 module _ (viewer : Option ℕ) (invalidation : Option Invalidation) (old mid : List ViewerEntry) (invalidated : AreInvalidatedIf invalidation old mid) where
   pub kept_refused : AreKeptFor viewer old mid
   kept_refused = kept_invalidated viewer invalidation old mid invalidated
 
-  pub kept_stored : (cache : Option ViewerCache) (after : List ViewerEntry)
-      → ((x : ViewerEntry) → IsOneOf x after → IsPutBack viewer cache x ⊎ IsOneOf x mid) → AreKeptFor viewer old after
+  pub kept_stored : (cache : ViewerCache) (after : List ViewerEntry)
+      → ((x : ViewerEntry) → IsOneOf x after → (x ≡ entry_of viewer cache) ⊎ IsOneOf x mid) → AreKeptFor viewer old after
   kept_stored cache after put =
       kept_then viewer old mid after kept_refused (record {
         each = λ s is.
             elim (put s is) [
-              | inl it ↦ inl (kept_put viewer cache s it)
+              | inl it ↦ inl (ap (λ (x : ViewerEntry). x.viewer) it)
               | inr was ↦ inr (s.cache, was)
             ];
       })

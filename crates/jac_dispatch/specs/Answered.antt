@@ -189,20 +189,9 @@ pub record AreValidCaches (app : Application) (k : KeeperSeen)
   pub each : IsTrue k.tells → (s : ViewerEntry) → IsOneOf s viewer_caches
       → IsValidCache app (worlds_of k.state) s.viewer s.cache
 
--- the change has its invalidation, or nothing is kept that it could affect
-abbrev pub AreAffected : Application → State → Option Change → Option Invalidation → List
-    ViewerEntry → Type 0
-AreAffected app s change invalidation viewer_caches = (viewer_caches ≡ []) ⊎ IsInvalidationOf app s
-    change invalidation
-
 abbrev pub AreInvalidatedIf : Option Invalidation → List ViewerEntry → List ViewerEntry → Type 0
 AreInvalidatedIf None old new = new ≡ old
 AreInvalidatedIf (Some invalidation) old new = AreInvalidated invalidation old new
-
--- the entry is that of the viewer, with the cache that is put back
-abbrev pub IsPutBack : Option ℕ → Option ViewerCache → ViewerEntry → Type 0
-IsPutBack viewer None s = ⊥
-IsPutBack viewer (Some cache) s = s ≡ entry_of viewer cache
 
 -- how an application answers, whose sessions these are; the flag says that a GET's page resolves
 -- only what it consults

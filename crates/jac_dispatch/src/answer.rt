@@ -1,11 +1,10 @@
-ghost use Rattle.std.specs.Prelude.{◌≡◌, ◌⊎◌, false, Some, IfOk, IfSome, IsTrue, IsSome, IsNone, OnOk, OnErr, IsErrOf, []};
+ghost use Rattle.std.specs.Prelude.{◌≡◌, ◌⊎◌, false, IfOk, IsTrue, IsSome, IsNone, OnOk, OnErr, IsErrOf, []};
 ghost use Rattle.jac_lang.specs.Mirror.{application_of};
 ghost use Rattle.jac_keep.specs.Cause.{HasCause};
 ghost use Rattle.jac_keep.specs.KeeperSeen.{Reads};
 ghost use Rattle.jac_policy_cache.specs.ViewerCache.{IsEmptyCache};
-ghost use Rattle.jac_resolve.specs.ValidCache.{IsValidCache};
 ghost use Rattle.jac_engine.specs.Answers.{stores};
-ghost use Rattle.jac_engine.specs.Prepared.{IsPrepared, applied_if};
+ghost use Rattle.jac_engine.specs.Prepared.{IsPrepared, KeepsCache, applied_if};
 ghost use Rattle.jac_engine.specs.Start.{IsStart};
 ghost use Rattle.jac_viewer_caches.specs.CacheEntries.{IsOneOf, entry_of};
 ghost use Rattle.jac_viewer_caches.specs.declared.viewer_caches.ViewerEntry.{ViewerEntry};
@@ -15,12 +14,11 @@ ghost use Rattle.jac_serve_events.specs.AnswerSpec.{is_failure};
 ghost use Rattle.jac_serve_events.specs.Dispatcher.{kept};
 ghost use Rattle.jac_serve_events.specs.Log.{reply_on};
 ghost use Rattle.jac_replies.specs.Spelled.{audit_rest};
-ghost use Rattle.jac_dispatch.specs.Answered.{source_of, close_of, spelling_of, IsAnswerMade, AreValidCaches, AreAffected, AreInvalidatedIf, AreKeptFor, AsksFewAtFirst, IsPutBack};
+ghost use Rattle.jac_dispatch.specs.Answered.{source_of, close_of, spelling_of, IsAnswerMade, AreValidCaches, AreInvalidatedIf, AreKeptFor, AsksFewAtFirst};
 ghost use Rattle.jac_dispatch.specs.Seen.{whose, dispatcher_seen};
-ghost use Rattle.jac_plain.specs.Shown.{worlds_of};
 
 use crate::handler::AppDispatcher;
-use jac_engine::{Prepared, PreparedWithCache, commit, prepare, prepare_with_cache};
+use jac_engine::{Manner, PreparedWithCache, commit, prepare};
 use jac_keep::{Keeper, Stop};
 use jac_policy_cache::{Invalidation, ViewerCache};
 use jac_replies::{Answer, Ask, LabelTexts, Spelling, is_head, reply_line, sent_reply};
@@ -48,16 +46,6 @@ pub enum RequestSource {
 pub struct AnswerLines {
     pub reply: Bytes,
     pub audit: Txt,
-}
-
-/// An answer that isn't stored yet.
-#[derive(Drop)]
-pub struct PendingAnswer {
-    pub prepared: Prepared,
-    /// The viewer's cache on the state after the answer, if it is kept.
-    pub cache: Option<ViewerCache>,
-    /// What its change may affect in other viewers' caches.
-    pub invalidation: Option<Invalidation>,
 }
 
 fn reply_via(alloc: Global, via: RequestSource, ask: &Ask, answer: &Answer) -> Result<Bytes, Memory>
@@ -113,8 +101,8 @@ fn make_lines(
 
 /// Answers one request and stores its change. The lines of its reply are made first, so nothing is
 /// stored without them. The viewer's cache is kept, and what the change may affect in it is settled
-/// again. A lazily made page keeps no cache. After a fault of the keeper all caches are dropped,
-/// since the store may hold something else then.
+/// again. A lazily made page neither uses nor changes it. After a fault of the keeper all caches are
+/// dropped, since the store may hold something else then.
 pub fn answer_ask<K: Keeper, L: Ledger, M: Ledger>(
     dispatcher: &mut AppDispatcher<'_, '_, '_, '_, '_, '_, K, L, M>,
     via: RequestSource,
@@ -211,7 +199,7 @@ fn answer_over_caches<K: Keeper, L: Ledger, M: Ledger>(
 pub fn ready_answer<K: Keeper, L: Ledger, M: Ledger>(
     dispatcher: &mut AppDispatcher<'_, '_, '_, '_, '_, '_, K, L, M>,
     ask: &Ask,
-) -> Result<PendingAnswer, Stop>
+) -> Result<PreparedWithCache, Stop>
     requires attached { IsTrue (K.seen dispatcher.old.keeper.now).store.attached }
     requires start { IsTrue (K.seen dispatcher.old.keeper.now).tells
         → IsStart (whose dispatcher.old).app (K.seen dispatcher.old.keeper.now).state }
@@ -220,112 +208,8 @@ pub fn ready_answer<K: Keeper, L: Ledger, M: Ledger>(
     ensures prepared { IfOk result (λ r. IsPrepared dispatcher.old.lazy
         (K.seen dispatcher.new.keeper.now).tells
         (whose dispatcher.old).app (K.seen dispatcher.old.keeper.now).state ask.now r.prepared) }
-    ensures valid { IsTrue (K.seen dispatcher.new.keeper.now).tells
-        → IfOk result (λ r. IfSome r.cache (IsValidCache (whose dispatcher.old).app
-        (worlds_of (applied_if r.prepared.change (K.seen dispatcher.old.keeper.now).state))
-        ask.now.viewer)) }
-    ensures affected { IsTrue (K.seen dispatcher.new.keeper.now).tells
-        → IfOk result (λ r. AreAffected (whose dispatcher.old).app
-        (K.seen dispatcher.old.keeper.now).state
-        r.prepared.change r.invalidation dispatcher.new.viewer_caches.now) }
-    ensures bounded { IfOk result (λ r. AsksFewAtFirst dispatcher.old.lazy
-        (K.seen dispatcher.new.keeper.now).tells (whose dispatcher.old).app
-        (applied_if r.prepared.change (K.seen dispatcher.old.keeper.now).state) ask.now.viewer
-        dispatcher.old.viewer_caches.now dispatcher.old.evaluations.now
-        dispatcher.new.evaluations.now) }
-    ensures unsplit { IfOk result (λ r. IsNone r.prepared.change
-        → dispatcher.new.splits.now ≡ dispatcher.old.splits.now) }
-    ensures reading { stores (whose dispatcher.old).app ask.now ≡ false
-        → dispatcher.new.splits.now ≡ dispatcher.old.splits.now }
-    ensures reads { Reads (K.seen dispatcher.old.keeper.now) (K.seen dispatcher.new.keeper.now)
-        result }
-    ensures settled { AreValidCaches (whose dispatcher.old).app (K.seen dispatcher.new.keeper.now)
-        dispatcher.new.viewer_caches.now }
-    ensures cached { AreKeptFor ask.now.viewer dispatcher.old.viewer_caches.now
-        dispatcher.new.viewer_caches.now }
-    ensures same { whose dispatcher.new ≡ whose dispatcher.old }
-{
-    if dispatcher.lazy {
-        return ready_lazily(dispatcher, ask);
-    }
-    ready_valid(dispatcher, ask)
-}
-
-// The same, where a GET's page resolves only what it consults: nothing is kept.
-fn ready_lazily<K: Keeper, L: Ledger, M: Ledger>(
-    dispatcher: &mut AppDispatcher<'_, '_, '_, '_, '_, '_, K, L, M>,
-    ask: &Ask,
-) -> Result<PendingAnswer, Stop>
-    requires attached { IsTrue (K.seen dispatcher.old.keeper.now).store.attached }
-    requires start { IsTrue (K.seen dispatcher.old.keeper.now).tells
-        → IsStart (whose dispatcher.old).app (K.seen dispatcher.old.keeper.now).state }
-    ensures prepared { IfOk result (λ r. IsPrepared dispatcher.old.lazy
-        (K.seen dispatcher.new.keeper.now).tells
-        (whose dispatcher.old).app (K.seen dispatcher.old.keeper.now).state ask.now r.prepared) }
-    ensures valid { IsTrue (K.seen dispatcher.new.keeper.now).tells
-        → IfOk result (λ r. IfSome r.cache (IsValidCache (whose dispatcher.old).app
-        (worlds_of (applied_if r.prepared.change (K.seen dispatcher.old.keeper.now).state))
-        ask.now.viewer)) }
-    ensures affected { IsTrue (K.seen dispatcher.new.keeper.now).tells
-        → IfOk result (λ r. AreAffected (whose dispatcher.old).app
-        (K.seen dispatcher.old.keeper.now).state
-        r.prepared.change r.invalidation dispatcher.new.viewer_caches.now) }
-    ensures bounded { IfOk result (λ r. AsksFewAtFirst dispatcher.old.lazy
-        (K.seen dispatcher.new.keeper.now).tells (whose dispatcher.old).app
-        (applied_if r.prepared.change (K.seen dispatcher.old.keeper.now).state) ask.now.viewer
-        dispatcher.old.viewer_caches.now dispatcher.old.evaluations.now
-        dispatcher.new.evaluations.now) }
-    ensures unsplit { IfOk result (λ r. IsNone r.prepared.change
-        → dispatcher.new.splits.now ≡ dispatcher.old.splits.now) }
-    ensures reading { stores (whose dispatcher.old).app ask.now ≡ false
-        → dispatcher.new.splits.now ≡ dispatcher.old.splits.now }
-    ensures reads { Reads (K.seen dispatcher.old.keeper.now) (K.seen dispatcher.new.keeper.now)
-        result }
-    ensures settled { AreValidCaches (whose dispatcher.old).app (K.seen dispatcher.new.keeper.now)
-        dispatcher.new.viewer_caches.now }
-    ensures cached { AreKeptFor ask.now.viewer dispatcher.old.viewer_caches.now
-        dispatcher.new.viewer_caches.now }
-    ensures same { whose dispatcher.new ≡ whose dispatcher.old }
-{
-    dispatcher.viewer_caches.forget();
-    let prepared = prepare(
-        dispatcher.alloc,
-        dispatcher.service,
-        dispatcher.keeper,
-        ask,
-        dispatcher.lazy,
-        dispatcher.splits,
-        dispatcher.evaluations,
-    )?;
-    Ok(PendingAnswer {
-        prepared,
-        cache: None,
-        invalidation: None,
-    })
-}
-
-// The same, under labels that are settled.
-fn ready_valid<K: Keeper, L: Ledger, M: Ledger>(
-    dispatcher: &mut AppDispatcher<'_, '_, '_, '_, '_, '_, K, L, M>,
-    ask: &Ask,
-) -> Result<PendingAnswer, Stop>
-    requires attached { IsTrue (K.seen dispatcher.old.keeper.now).store.attached }
-    requires start { IsTrue (K.seen dispatcher.old.keeper.now).tells
-        → IsStart (whose dispatcher.old).app (K.seen dispatcher.old.keeper.now).state }
-    requires settled { AreValidCaches (whose dispatcher.old).app (K.seen dispatcher.old.keeper.now)
-        dispatcher.old.viewer_caches.now }
-    requires eager { dispatcher.old.lazy ≡ false }
-    ensures prepared { IfOk result (λ r. IsPrepared dispatcher.old.lazy
-        (K.seen dispatcher.new.keeper.now).tells
-        (whose dispatcher.old).app (K.seen dispatcher.old.keeper.now).state ask.now r.prepared) }
-    ensures valid { IsTrue (K.seen dispatcher.new.keeper.now).tells
-        → IfOk result (λ r. IfSome r.cache (IsValidCache (whose dispatcher.old).app
-        (worlds_of (applied_if r.prepared.change (K.seen dispatcher.old.keeper.now).state))
-        ask.now.viewer)) }
-    ensures affected { IsTrue (K.seen dispatcher.new.keeper.now).tells
-        → IfOk result (λ r. AreAffected (whose dispatcher.old).app
-        (K.seen dispatcher.old.keeper.now).state
-        r.prepared.change r.invalidation dispatcher.new.viewer_caches.now) }
+    ensures keeps { IfOk result (KeepsCache (K.seen dispatcher.new.keeper.now).tells
+        (whose dispatcher.old).app (K.seen dispatcher.old.keeper.now).state ask.now.viewer) }
     ensures bounded { IfOk result (λ r. AsksFewAtFirst dispatcher.old.lazy
         (K.seen dispatcher.new.keeper.now).tells (whose dispatcher.old).app
         (applied_if r.prepared.change (K.seen dispatcher.old.keeper.now).state) ask.now.viewer
@@ -345,37 +229,20 @@ fn ready_valid<K: Keeper, L: Ledger, M: Ledger>(
 {
     empty_cache_is_valid();
     let cache = take_cache(dispatcher.alloc, dispatcher.viewer_caches, &ask.viewer);
-    let valid = prepare_with_cache(
+    let manner = Manner {
+        lazy: dispatcher.lazy,
+        cache,
+    };
+    let ready = prepare(
         dispatcher.alloc,
         dispatcher.service,
         dispatcher.keeper,
         ask,
-        cache,
+        manner,
         dispatcher.splits,
         dispatcher.evaluations,
     )?;
-    Ok(ready_of(valid))
-}
-
-fn ready_of(valid: PreparedWithCache) -> PendingAnswer
-    ensures { result
-        ≡ record {
-          prepared = valid.prepared;
-          cache = Some valid.cache;
-          invalidation =
-              valid.invalidation;
-        } }
-{
-    let PreparedWithCache {
-        prepared,
-        cache,
-        invalidation,
-    } = valid;
-    PendingAnswer {
-        prepared,
-        cache: Some(cache),
-        invalidation,
-    }
+    Ok(ready)
 }
 
 // Takes out what is kept for the viewer, or begins with nothing.
@@ -394,18 +261,13 @@ fn take_cache(alloc: Global, viewer_caches: &mut ViewerCaches, viewer: &Option<I
 pub fn store_answer<K: Keeper, L: Ledger, M: Ledger>(
     dispatcher: &mut AppDispatcher<'_, '_, '_, '_, '_, '_, K, L, M>,
     ask: &Ask,
-    ready: PendingAnswer,
+    ready: PreparedWithCache,
 ) -> Result<(), Stop>
     requires attached { IsTrue (K.seen dispatcher.old.keeper.now).store.attached }
     requires prepared { IsPrepared dispatcher.old.lazy (K.seen dispatcher.old.keeper.now).tells
         (whose dispatcher.old).app (K.seen dispatcher.old.keeper.now).state ask.now ready.prepared }
-    requires valid { IsTrue (K.seen dispatcher.old.keeper.now).tells
-        → IfSome ready.cache (IsValidCache (whose dispatcher.old).app
-        (worlds_of (applied_if ready.prepared.change (K.seen dispatcher.old.keeper.now).state))
-        ask.now.viewer) }
-    requires affected { IsTrue (K.seen dispatcher.old.keeper.now).tells
-        → AreAffected (whose dispatcher.old).app (K.seen dispatcher.old.keeper.now).state
-        ready.prepared.change ready.invalidation dispatcher.old.viewer_caches.now }
+    requires keeps { KeepsCache (K.seen dispatcher.old.keeper.now).tells (whose dispatcher.old).app
+        (K.seen dispatcher.old.keeper.now).state ask.now.viewer ready }
     requires settled { AreValidCaches (whose dispatcher.old).app (K.seen dispatcher.old.keeper.now)
         dispatcher.old.viewer_caches.now }
     ensures applied { IsTrue (K.seen dispatcher.new.keeper.now).tells
@@ -430,7 +292,7 @@ pub fn store_answer<K: Keeper, L: Ledger, M: Ledger>(
 {
     cache_moves();
     covered_by_nothing();
-    let PendingAnswer {
+    let PreparedWithCache {
         prepared,
         cache,
         invalidation,
@@ -438,7 +300,7 @@ pub fn store_answer<K: Keeper, L: Ledger, M: Ledger>(
     invalidate_by(dispatcher.alloc, dispatcher.viewer_caches, &invalidation);
     match commit(dispatcher.alloc, dispatcher.keeper, prepared) {
         Ok(_) => {
-            put_back(dispatcher.viewer_caches, ask.viewer, cache);
+            dispatcher.viewer_caches.put(ask.viewer, cache);
             Ok(())
         }
         Err(stop) => Err(stop),
@@ -455,17 +317,6 @@ fn invalidate_by(
 {
     match invalidation {
         Some(invalidation) => viewer_caches.invalidate(alloc, invalidation),
-        None => (),
-    }
-}
-
-// Keeps what is settled for the viewer, if that is to be kept.
-fn put_back(viewer_caches: &mut ViewerCaches, viewer: Option<Id>, cache: Option<ViewerCache>)
-    ensures { (s : ViewerEntry) → IsOneOf s viewer_caches.new
-        → IsPutBack viewer cache s ⊎ IsOneOf s viewer_caches.old }
-{
-    match cache {
-        Some(cache) => viewer_caches.put(viewer, cache),
         None => (),
     }
 }

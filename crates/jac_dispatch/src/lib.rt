@@ -5,8 +5,6 @@ mod answer;
 mod asks;
 mod handler;
 
-pub use answer::{
-    AnswerLines, PendingAnswer, RequestSource, answer_ask, ready_answer, store_answer,
-};
+pub use answer::{AnswerLines, RequestSource, answer_ask, ready_answer, store_answer};
 pub use asks::{ask_in, request_in, request_viewer, viewer_in};
 pub use handler::AppDispatcher;

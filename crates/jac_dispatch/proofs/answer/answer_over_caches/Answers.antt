@@ -5,10 +5,10 @@ use Rattle.jac_lang.specs.Mirror.{application_of}
 use Rattle.jac_engine.specs.Answers.{HasForm}
 use Rattle.jac_engine.specs.Prepared.{IsPrepared, applied_if}
 use Rattle.jac_resolve.specs.Rounds.{AreFewEvaluations}
-use Rattle.jac_dispatch.specs.Answered.{AreValidCaches, AreAffected, DispatcherOf}
+use Rattle.jac_dispatch.specs.Answered.{AreValidCaches, DispatcherOf}
 use Rattle.jac_dispatch.specs.Seen.{whose}
 use Rattle.jac_dispatch.proofs.EntryLemmas.{servable, unapplied}
-use Rattle.jac_dispatch.proofs.ViewerEntryLaws.{few_stored, kept_then, prepared_after, still_valid}
+use Rattle.jac_dispatch.proofs.ViewerEntryLaws.{few_stored, kept_then, prepared_after, still_kept}
 use Rattle.jac_dispatch.proofs.answer.answer_over_caches.Goals as goal
 
 pub make_lines-requires-clause-status : goal.make_lines-requires-clause-status
@@ -69,23 +69,13 @@ store_answer-requires-clause-prepared g c =
     (prepared_after c.args.dispatcher.now.lazy new (K.seen c.args.dispatcher.now.keeper.now) (application_of c.args.dispatcher.now.service.now)
     c.args.ask.now c.in_ok-ready.ready.prepared new.tells (λ told. told) left.same_state c.in_ok-ready.ensures.prepared)
 
-pub store_answer-requires-clause-valid : goal.store_answer-requires-clause-valid
-store_answer-requires-clause-valid g c =
+pub store_answer-requires-clause-keeps : goal.store_answer-requires-clause-keeps
+store_answer-requires-clause-keeps g c =
     let K = g.K.Keeper in
     let before = c.args.dispatcher.now in
     let after = c.ready_answer.new.dispatcher in
-    let ready = c.in_ok-ready.ready in
-    still_valid (whose before) (whose after) (K.seen before.keeper.now) (K.seen after.keeper.now) ready.prepared.change c.args.ask.now.viewer ready.cache
-    c.in_ok-ready.ensures.same c.in_ok-ready.ensures.reads.left.same_state c.in_ok-ready.ensures.valid
-
-pub store_answer-requires-clause-affected : goal.store_answer-requires-clause-affected
-store_answer-requires-clause-affected g c = λ told.
-    let K = g.K.Keeper in
-    let left = c.in_ok-ready.ensures.reads.left in
-    let ready = c.in_ok-ready.ready in
-    let viewer_caches = c.ready_answer.new.dispatcher.viewer_caches.now in
-    subst (λ (of : DispatcherOf). AreAffected of.app (K.seen c.ready_answer.new.dispatcher.keeper.now).state ready.prepared.change ready.invalidation viewer_caches) (sym c.in_ok-ready.ensures.same)
-    (rw (left.same_state told) (c.in_ok-ready.ensures.affected told))
+    still_kept (whose before) (whose after) (K.seen before.keeper.now) (K.seen after.keeper.now) c.args.ask.now.viewer c.in_ok-ready.ready
+    c.in_ok-ready.ensures.same c.in_ok-ready.ensures.reads.left.same_state c.in_ok-ready.ensures.keeps
 
 pub store_answer-requires-clause-settled : goal.store_answer-requires-clause-settled
 store_answer-requires-clause-settled g c =
