@@ -1,16 +1,18 @@
 -- files in memory, as contracts see them
-use Rattle.std.specs.Prelude.{ℕ, List, Bool, true, ◌||◌, if◌then◌else◌, is_none}
+use Rattle.std.specs.Prelude.{ℕ, List, [], ◌∷◌, ◌++◌, Bool, true, ◌||◌, if◌then◌else◌, is_none}
 use Rattle.jac_io.specs.Faults.{one_more_fault}
 use Rattle.jac_io.specs.Calls.{is_listed}
 use Rattle.jac_io.specs.NamedFiles.{file_named}
 use Rattle.jac_io.specs.Seen.{FilesSeen}
 
--- the files, the calls that are to fail, and how many calls there were and how many failed
+-- the files, the calls that are to fail, how many calls there were and how many failed, and the
+-- names that were asked for
 pub record FilesState : Type 0 where
   pub files : List (List ℕ × List ℕ)
   pub fails : List ℕ
   pub calls : ℕ
   pub faults : ℕ
+  pub asked : List (List ℕ)
 
 -- whether the next read fails: it is a listed call, or the file isn't there
 abbrev pub file_read_fails : FilesState → List ℕ → Bool
@@ -22,8 +24,14 @@ abbrev pub files_after_read : FilesState → List ℕ → FilesState
 files_after_read s name = record s {
   calls = one_more_fault s.calls;
   faults = if file_read_fails s name then one_more_fault s.faults else s.faults;
+  asked = s.asked ++ name ∷ [];
 }
 
 -- they tell what they hold
 abbrev pub seen_files : FilesState → FilesSeen
-seen_files s = record { tells = true; file = file_named s.files; faults = s.faults }
+seen_files s = record {
+  tells = true;
+  file = file_named s.files;
+  faults = s.faults;
+  asked = s.asked;
+}

@@ -6,11 +6,13 @@ use Rattle.jac_io.specs.declared.files.FileFault.{FileFault}
 use Rattle.jac_io.specs.declared.files.FileFault.TheVariants.{Failed, TooLong, Memory}
 use Rattle.jac_io.specs.declared.sink.Failed.{Failed as Refused}
 
--- of files: whether they tell what they hold, the bytes by name, and how often they failed
+-- of files: whether they tell what they hold, the bytes by name, how often they failed, and the
+-- names that were asked for, in order, each as often as it was
 pub record FilesSeen : Type 0 where
   pub tells : Bool
   pub file : List ℕ → Option (List ℕ)
   pub faults : ℕ
+  pub asked : List (List ℕ)
 
 -- files after some reads: where they tell afterwards they told before, and hold the same
 pub record FilesLast (old new : FilesSeen) : Type 0 where
@@ -22,6 +24,7 @@ pub record FilesLast (old new : FilesSeen) : Type 0 where
 pub record ReadsFile (old new : FilesSeen) (name : List ℕ) (limit : ℕ)
     (result : Result (List ℕ) FileFault) : Type 0 where
   pub lasts : FilesLast old new
+  pub asked : new.asked ≡ old.asked ++ name ∷ []
   pub within : IfOk result (λ bytes. length bytes ≤ limit)
   pub exact : IsTrue new.tells → IfOk result (λ bytes. old.file name ≡ Some bytes)
   pub too_long : IsTrue new.tells → result ≡ Err TooLong

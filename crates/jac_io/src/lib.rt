@@ -2,6 +2,7 @@
 //! memory.
 #![tactic(auto)]
 
+mod asked;
 mod calls;
 mod files;
 mod link;

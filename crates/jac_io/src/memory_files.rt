@@ -1,6 +1,7 @@
-ghost use Rattle.std.specs.Prelude.{◌≡◌, ◌↔◌, true, IsTrue, IsErrOf};
+ghost use Rattle.std.specs.Prelude.{◌≡◌, ◌↔◌, [], true, IsTrue, IsErrOf};
 ghost use Rattle.jac_io.specs.Seen.{ReadsFile};
 
+use crate::asked::Asked;
 use crate::{Calls, FileFault, Files, NamedFiles};
 use jac_value::{Bytes, Txt};
 use std::alloc::Global;
@@ -13,6 +14,7 @@ pub struct MemoryFiles {
     fails: Calls,
     calls: u64,
     faults: u64,
+    asked: Asked,
 }
 
 impl Model for MemoryFiles {
@@ -20,18 +22,25 @@ impl Model for MemoryFiles {
 
     ghost Value = { FilesState };
 
-    ghost view = { λ m. record { files = m.files; fails = m.fails; calls = m.calls; faults = m.faults } };
+    ghost view = { λ m. record { files = m.files; fails = m.fails; calls = m.calls; faults = m.faults; asked = m.asked.names } };
 }
 
 impl MemoryFiles {
     pub fn new(files: NamedFiles, fails: Calls) -> MemoryFiles
-        ensures { result ≡ record { files = files; fails = fails; calls = 0; faults = 0 } }
+        ensures { result ≡ record {
+          files = files;
+          fails = fails;
+          calls = 0;
+          faults = 0;
+          asked = [];
+        } }
     {
         MemoryFiles {
             files,
             fails,
             calls: 0,
             faults: 0,
+            asked: Asked::new(),
         }
     }
 }
@@ -48,6 +57,7 @@ impl Files for MemoryFiles {
         ensures reads { ReadsFile (seen_files self.old) (seen_files self.new) name.now limit
             result }
     {
+        self.asked = self.asked.with(name);
         self.calls = self.calls.saturating_add(1);
         let listed = self.fails.lists(self.calls);
         if listed {
