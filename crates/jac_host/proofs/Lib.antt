@@ -1,4 +1,3 @@
-pub mod Steps
 pub mod SinkLaws
 pub mod LinkLaws
 pub mod OutsideLaws

@@ -1,8 +1,14 @@
--- what reads gave, held against what is supposed to be there
+-- what files were asked for, and what reads gave, held against what is supposed to be there
 use Rattle.std.specs.Prelude.{ℕ, Bool, true, false, ◌&&◌, List, [], ◌∷◌, ◌++◌, Option, Some, None, length, take, ◌==◌, if◌then◌else◌}
 use Rattle.std.specs.Str.{bytes_eq}
 use Rattle.jac_io.specs.Seen.{FilesSeen}
-use Rattle.jac_host.specs.Events.{Event, Opened, Gave, Came}
+use Rattle.jac_host.specs.Events.{Event, Asks, Opened, Gave, Came}
+
+-- the names of the files that were asked for, in order
+abbrev pub asked_in : List Event → List (List ℕ)
+asked_in [] = []
+asked_in (Asks name ∷ events) = asked_in events ++ name ∷ []
+asked_in (_ ∷ events) = asked_in events
 
 -- the bytes that reads gave since the last file was opened, or the last connection came
 abbrev pub bytes_given : List Event → List ℕ
@@ -38,4 +44,9 @@ agrees file (_ ∷ events) = agrees file events
 
 -- files that are supposed to hold this. They tell as long as each read agreed
 abbrev pub files_seen : (List ℕ → Option (List ℕ)) → List Event → ℕ → FilesSeen
-files_seen file events faults = record { tells = agrees file events; file = file; faults = faults }
+files_seen file events faults = record {
+  tells = agrees file events;
+  file = file;
+  faults = faults;
+  asked = asked_in events;
+}

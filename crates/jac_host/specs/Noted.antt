@@ -1,10 +1,11 @@
 -- what a note adds to a journal
 use Rattle.std.specs.Prelude.{List, ◌∷◌, option_map}
-use Rattle.jac_host.specs.Events.{Event, Opened, Gave, Took, Aimed, Listens, Came}
+use Rattle.jac_host.specs.Events.{Event, Asks, Opened, Gave, Took, Aimed, Listens, Came}
 use Rattle.jac_host.specs.declared.journal.Note.{Note}
 use Rattle.jac_host.specs.declared.journal.Note.TheVariants as notes
 
 abbrev pub note_event : Note → Event
+note_event (notes.Asks name) = Asks name.now
 note_event (notes.Opened name) = Opened name.now
 note_event (notes.Gave bytes) = Gave bytes.now
 note_event (notes.Took bytes) = Took bytes.now

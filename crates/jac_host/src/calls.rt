@@ -1,6 +1,7 @@
-//! The calls of the system, one a function, each noted with what it answered. Nothing else notes.
+//! The calls of the system, one a function, each noted with what it answered. That a file is asked
+//! for is noted before. Nothing else notes.
 ghost use Rattle.std.specs.Prelude.{◌≡◌, ◌≤◌, [], ◌∷◌, Some, None, length, take, IfOk, OnOk, OnErr, MatchResult};
-ghost use Rattle.jac_host.specs.Events.{Opened, Gave, Took, Aimed, Listens, Came};
+ghost use Rattle.jac_host.specs.Events.{Asks, Opened, Gave, Took, Aimed, Listens, Came};
 
 use crate::inherited::inherited;
 use crate::journal::{Journal, Note};
@@ -10,12 +11,13 @@ use std::io;
 use std::io::{ErrorKind, Read, Write};
 use std::net::{SocketAddr, TcpListener};
 
-/// Opens a file.
+/// Asks for a file, and opens it.
 pub(crate) fn open_file(rt: &HostRuntime, journal: &mut Journal, name: &str) -> io::Result<File>
     ensures { MatchResult result
-        (λ _. journal.new.events ≡ Opened name.now ∷ journal.old.events)
-        (λ _. journal.new.events ≡ journal.old.events) }
+        (λ _. journal.new.events ≡ Opened name.now ∷ Asks name.now ∷ journal.old.events)
+        (λ _. journal.new.events ≡ Asks name.now ∷ journal.old.events) }
 {
+    *journal = journal.then(&Note::Asks(name));
     let file = File::open(rt, name)?;
     *journal = journal.then(&Note::Opened(name));
     Ok(file)

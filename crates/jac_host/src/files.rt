@@ -1,5 +1,5 @@
-ghost use Rattle.std.specs.Prelude.{◌≡◌, ◌≤◌, ◌<◌, [], Some, Err, length, IfOk, IsTrue, IsSomeAnd, vec_len};
-ghost use Rattle.jac_host.specs.Gave.{agrees, files_seen};
+ghost use Rattle.std.specs.Prelude.{◌≡◌, ◌≤◌, ◌<◌, [], ◌∷◌, ◌++◌, Some, Err, length, IfOk, IsTrue, IsSomeAnd, vec_len};
+ghost use Rattle.jac_host.specs.Gave.{agrees, asked_in, files_seen};
 
 use crate::calls::{open_file, read_once};
 use crate::faults::counted;
@@ -71,6 +71,7 @@ fn read_file<O: Outside>(
     name: &str,
     limit: usize,
 ) -> Result<Vec<u8>, Unread>
+    ensures asked { asked_in journal.new.events ≡ asked_in journal.old.events ++ name.now ∷ [] }
     ensures within { IfOk result (λ v. vec_len v ≤ limit) }
     ensures told { IsTrue (agrees O.file journal.new.events) → IsTrue (agrees O.file
         journal.old.events) }

@@ -16,9 +16,10 @@ impl Model for Journal {
     ghost also_owns = { λ _. ftrue };
 }
 
-/// One answer of the system.
+/// One question to the system, or one answer of it.
 #[derive(Clone, Copy)]
 pub enum Note<'a> {
+    Asks(&'a str),
     Opened(&'a str),
     Gave(&'a [u8]),
     Took(&'a [u8]),
