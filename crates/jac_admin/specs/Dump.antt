@@ -1,4 +1,4 @@
--- How the steps of a dump end.
+-- What `dump` writes, and why it ends.
 use Rattle.std.specs.Prelude.{◌≡◌, ◌⊎◌, ◌+◌, ℕ, Bool, true, false, IsTrue, Result, Err, Option, Some, None, List, [], ◌∷◌, ◌++◌, codes, decimal}
 use Rattle.std.specs.Fmt.{signed_decimal}
 use Rattle.jac_io.specs.Faults.{Rose}

@@ -1,4 +1,4 @@
--- How the steps of a `why` end.
+-- What `why` writes, and why it ends.
 use Rattle.std.specs.Prelude.{◌≡◌, ◌⊎◌, ℕ, IsTrue, Result, Ok, Option, None, List, [], ◌∷◌, ◌++◌, slice_get, codes, decimal}
 use Rattle.std.specs.Option.{option_and_then}
 use Rattle.jac_io.specs.Seen.{SinkSeen}

@@ -1,4 +1,4 @@
--- How the steps of an upgrade end.
+-- What `upgrade` writes, and why it ends.
 use Rattle.std.specs.Prelude.{◌≡◌, ◌≤◌, ◌⊎◌, ℕ, Bool, IsTrue, Result, Ok, Err, Option, Some, None, List, [], ◌∷◌, ◌++◌, length, slice_get, codes, decimal}
 use Rattle.jac_io.specs.Faults.{Rose}
 use Rattle.jac_io.specs.Seen.{SinkSeen}

@@ -1,4 +1,4 @@
--- How the steps of a check end.
+-- What `check` writes, and why it ends.
 use Rattle.std.specs.Prelude.{◌⊎◌, ℕ, Result, List, [], ◌++◌, length, codes, decimal}
 use Rattle.jac_lang.specs.Syntax.{Application}
 use Rattle.jac_cli.specs.declared.words.Command.{Command}

@@ -1,5 +1,4 @@
--- What a command that serves sees of its keeper, of what it counts, and of what is kept for those
--- who looked.
+-- What a command that answers requests sees of its store, counts and caches.
 use Rattle.std.specs.Prelude.{◌≡◌, ℕ, List}
 use Rattle.jac_command_base.specs.Attached.{IsUnattached}
 use Rattle.jac_command_base.specs.Files.{Sight, IsIdle}

@@ -1,4 +1,4 @@
--- A run: its command, what it puts, and its status.
+-- The contract of `run`: its command, the bytes that it writes, and its exit status.
 use Rattle.std.specs.Prelude.{◌≡◌, ◌≤◌, ◌⊎◌, ⊤, ℕ, Bool, true, false, is_none, IsTrue, Result, Ok, Option, Some, None, List, [], ◌++◌, length, codes}
 use Rattle.jac_io.specs.Faults.{Rose}
 use Rattle.jac_io.specs.Seen.{FilesSeen, SinkSeen}

@@ -1,4 +1,4 @@
--- How the steps of `serve` end: an application is served to the connections of a door.
+-- What `serve` writes, and why it ends.
 use Rattle.std.specs.Prelude.{◌≡◌, ◌⊎◌, ℕ, IsTrue, Result, Ok, Err, Some, List, [], ◌++◌, codes, decimal}
 use Rattle.jac_io.specs.Faults.{Rose}
 use Rattle.jac_io.specs.Linked.{LinkSeen, DoorSeen}

@@ -1,4 +1,4 @@
--- Serving the links of a door, one after another.
+-- How the connections of a listening socket are served, one after another.
 use Rattle.std.specs.Prelude.{◌≡◌, ◌≤◌, ◌⊎◌, ℕ, ◌+◌, Bool, true, false, IsTrue, IsOk, Result, Ok, Err, Option, Some, None, List, [], ◌∷◌, ◌++◌, length, map}
 use Rattle.jac_io.specs.Faults.{Rose}
 use Rattle.jac_io.specs.Linked.{LinkSeen, DoorSeen}

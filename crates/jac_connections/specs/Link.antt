@@ -1,5 +1,4 @@
--- Serving a link: its input is the pieces of one connection, and the replies go back on it as they
--- are.
+-- How one connection is served: its bytes come in pieces, and the replies go back on it.
 use Rattle.std.specs.Prelude.{◌≡◌, ◌≤◌, ◌<◌, ◌||◌, ◌⊎◌, ℕ, ◌+◌, Bool, true, false, IsTrue, IfOk, IsErr, nat_le, Result, Ok, Err, List, [], ◌∷◌, ◌++◌, length}
 use Rattle.std.specs.List.{concat}
 use Rattle.jac_io.specs.Faults.{Rose}

@@ -1,4 +1,4 @@
--- How an application answers over a keeper.
+-- How requests are answered from a store, entry by entry of the log.
 use Rattle.std.specs.Prelude.{◌≡◌, ℕ, ◌⊎◌, Bool, IsTrue, true, false, if◌then◌else◌, Option, Some, None, List, [], ◌∷◌, ◌++◌, ⊤}
 use Rattle.jac_lang.specs.Syntax.{Application}
 use Rattle.jac_rows.specs.Good.{IsGood}

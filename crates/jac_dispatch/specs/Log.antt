@@ -1,4 +1,4 @@
--- What a run did: an entry for each request that was answered.
+-- The log of a run: an entry for each request that was answered.
 use Rattle.std.specs.Prelude.{◌≡◌, ℕ, ◌+◌, ◌==◌, ◌&&◌, ◌||◌, ◌⊎◌, Bool, true, false, not, is_none, if◌then◌else◌, None, List, [], ◌∷◌, ⊤}
 use Rattle.jac_lang.specs.Syntax.{Application}
 use Rattle.jac_rows.specs.Good.{IsGood}

@@ -1,4 +1,4 @@
--- What answers a request: the ordinary interpreter's page in a world, or a refusal.
+-- The answer to a request: the ordinary interpreter's page, or a refusal.
 use Rattle.std.specs.Prelude.{◌≡◌, ℕ, ◌<◌, ◌^◌, ◌⊎◌, ◌++◌, Bool, true, false, Option, Some, None, List, [], codes, slice_get}
 use Rattle.jac_world.specs.World.{shown_by, IsAscending}
 use Rattle.jac_lang.specs.declared.field_kinds.Field.{Field}

@@ -1,4 +1,4 @@
--- The states that requests are answered on.
+-- The states of a store in which requests may be answered.
 use Rattle.std.specs.Prelude.{◌≤◌, ℕ, Bool, length}
 use Rattle.jac_lang.specs.Syntax.{Application}
 use Rattle.jac_rows.specs.declared.state.State.{State}

@@ -1,4 +1,4 @@
--- records with all their new alternatives
+-- Records with all their new rows.
 use Rattle.std.specs.Prelude.{ℕ, ◌+◌, ◌<◌, ◌==◌, nat_lt, Bool, false, ◌||◌, if◌then◌else◌, List, [], ◌∷◌, length, ⊤, Option, Some, None}
 use Rattle.jac_value.specs.Ids.{model_of_id}
 use Rattle.jac_world.specs.World.{IsRisingBy}

@@ -1,4 +1,4 @@
--- What attaching to a store leaves.
+-- A store after a call that attaches it.
 use Rattle.std.specs.Prelude.{◌≡◌, ◌≤◌, ◌⊎◌, ℕ, List, Option, Some, None, Result, Err, OnOk, OnErr, IsTrue, length}
 use Rattle.jac_io.specs.Faults.{Rose}
 use Rattle.jac_rows.specs.Good.{ModelShape}

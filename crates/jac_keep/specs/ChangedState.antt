@@ -1,4 +1,4 @@
--- states after a record or a change
+-- The state after one record was replaced, or after a whole change.
 use Rattle.std.specs.Prelude.{ℕ, List, [], ◌∷◌}
 use Rattle.jac_rows.specs.declared.row.Row.{Row}
 use Rattle.jac_rows.specs.declared.state.State.{State}

@@ -1,4 +1,4 @@
--- What bringing a store to another schema leaves.
+-- A store after a call that changes its schema.
 use Rattle.std.specs.Prelude.{◌≡◌, ℕ, ◌-◌, List, ◌++◌, Some, Result, OnOk, OnErr, IsTrue, length}
 use Rattle.jac_keep.specs.Cause.{HasCause}
 use Rattle.jac_rows.specs.Good.{ModelShape}

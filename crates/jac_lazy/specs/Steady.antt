@@ -1,4 +1,4 @@
--- Assignments that are settled as far as was consulted.
+-- Labels that are settled among those that were consulted (`--lazy`).
 use Rattle.std.specs.Prelude.{◌≡◌, ℕ, Bool, true, false, List, Option}
 use Rattle.jac_world.specs.World.{shown_by, IsAscending}
 use Rattle.jac_lang.specs.Syntax.{Application}

@@ -1,5 +1,4 @@
--- Answers of policies that are remembered with the signs of the labels that were consulted for
--- them.
+-- Cached answers of policies, each with the consulted labels and whether these were shown.
 use Rattle.std.specs.Prelude.{◌≡◌, ◌%◌, ℕ, Bool, true, false, List, [], ◌∷◌, Option, Some, None, is_some, if◌then◌else◌}
 use Rattle.std.specs.List.{list_any}
 use Rattle.std.specs.Ordering.{nat_cmp}

@@ -1,4 +1,4 @@
--- What the steps of the greedy pass leave. The definition of a settled set knows none of it.
+-- What each round of settling labels leaves. The definition of a settled set knows none of it.
 use Rattle.std.specs.Prelude.{◌≡◌, ℕ, ◌+◌, ◌*◌, ◌<◌, ◌≤◌, Bool, true, false, if◌then◌else◌, ◌||◌, List, [], ◌∷◌, Option, length}
 use Rattle.jac_world.specs.World.{shown_by, IsAscending}
 use Rattle.jac_lang.specs.Syntax.{Application}

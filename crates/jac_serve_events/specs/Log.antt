@@ -1,4 +1,4 @@
--- What is put for a log, and the events that bring it.
+-- The bytes that are written for a log, and the events that it answers.
 use Rattle.std.specs.Prelude.{◌≡◌, ℕ, ◌+◌, ◌&&◌, ◌||◌, Bool, true, is_some, not, if◌then◌else◌, Option, None, List, [], ◌∷◌, ◌++◌, codes}
 use Rattle.std.specs.List.{flat_map}
 use Rattle.std.specs.Str.{bytes_eq}

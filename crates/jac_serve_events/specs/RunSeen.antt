@@ -1,4 +1,4 @@
--- What a run sees of its keeper, of what it counts, and of what is kept for those who looked.
+-- What a run sees of its store, counts and caches.
 use Rattle.std.specs.Prelude.{◌≡◌, ℕ, ◌+◌, ◌-◌, ◌^◌, ◌≤◌, min, List, []}
 use Rattle.jac_keep.specs.KeeperSeen.{KeeperSeen}
 use Rattle.jac_viewer_caches.specs.declared.viewer_caches.ViewerEntry.{ViewerEntry}

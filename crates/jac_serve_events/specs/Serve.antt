@@ -1,4 +1,4 @@
--- What serving the lines of an events file puts on the two sinks.
+-- What serving an events file writes to the output and the audit.
 use Rattle.std.specs.Prelude.{◌≡◌, ℕ, ◌+◌, ◌||◌, ◌⊎◌, Bool, length, true, false, is_some, decimal, Result, Ok, Err, Option, Some, None, List, [], ◌∷◌, ◌++◌, ⊤}
 use Rattle.std.specs.List.{flat_map}
 use Rattle.jac_events.specs.declared.event.Event.{Event}

@@ -1,4 +1,4 @@
--- The change that brings a state to an application.
+-- The change that upgrades the rows of a store.
 use Rattle.std.specs.Prelude.{◌≡◌, ℕ, ◌==◌, Bool, false, true, if◌then◌else◌, List, [], ◌∷◌, map}
 use Rattle.jac_value.specs.Ids.{model_of_id}
 use Rattle.jac_world.specs.World.{shown_by, IsAscending}

@@ -1,4 +1,4 @@
--- The first part of an application that another one lacks, or has otherwise.
+-- The first part of an application that a second one lacks or has changed.
 use Rattle.std.specs.Prelude.{ℕ, ◌+◌, ◌&&◌, if◌then◌else◌, List, [], ◌∷◌, Option, Some, None, Result, Ok, Err}
 use mathlib.Core.Bool.{beq}
 use Rattle.jac_lang.specs.declared.field_kinds.Field.{Field}

@@ -1,4 +1,4 @@
--- What the records of an application become in one that extends it, in the world of one assignment.
+-- What an upgrade makes of the records, in one world.
 use Rattle.std.specs.Prelude.{ℕ, ◌+◌, ◌-◌, zero, suc, Bool, if◌then◌else◌, List, [], ◌∷◌, ◌++◌, length, drop}
 use Rattle.jac_value.specs.declared.value.Value.{Value}
 use Rattle.jac_lang.specs.Lookup.{fields_at, groups_at}

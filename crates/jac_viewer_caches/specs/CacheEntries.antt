@@ -1,4 +1,4 @@
--- What is kept for those who looked, and what a change leaves of it.
+-- The caches of viewers, and what a change removes from them.
 use Rattle.std.specs.Prelude.{◌≡◌, ◌⊎◌, ℕ, Option, List, [], ◌∷◌}
 use Rattle.jac_policy_cache.specs.declared.viewer_cache.ViewerCache.{ViewerCache}
 use Rattle.jac_policy_cache.specs.declared.invalidation.Invalidation.{Invalidation}
