@@ -15,20 +15,22 @@ ghost use Rattle.jac_headline.specs.Headline.{Given, HoldGiven, IsReplayTold, Is
 ghost use Rattle.jac_headline.specs.Replies.{AreRightReplies};
 ghost use Rattle.jac_headline.specs.Companions.{ShowsNothingForbidden, HideAlike, LeavesOthers};
 
-/// This is promised of a replay that ended with status 0, or with 3 because a line of its events
-/// was refused, if its files and store could be read until it ended. Then its application's file
-/// spells an application, and there is a log with an entry for each request that its events bring.
+/// The promise covers a replay under two conditions. It ended with status 0, or with status 3
+/// because a line of its events was refused. Its files and its store could be read until it ended.
+/// Then its application's file spells an application, and there is a log with an entry for each
+/// request that its events bring.
 ///
-/// 1. **Stored rows.** At the end each assignment of labels shows the tables that the ordinary
-///    interpreter makes of the tables that it showed when the store was attached (`stored`).
+/// 1. **Stored rows.** Take any assignment, and the tables that it showed when the store was
+///    attached. Let the ordinary interpreter answer the requests of the log on these tables. The
+///    assignment shows the tables that result, when the run ends (`stored`).
 /// 2. **Pages.** Each page is that interpreter's page, in the world before its request, under the
 ///    labels that its audit line names (`made`).
 /// 3. **Nothing forbidden.** Each of these labels meets its policy for whoever asks (`allowed`).
 /// 4. **Nothing withheld.** No single further label could be shown (`settled`). With `--lazy` this
 ///    isn't claimed.
 ///
-/// The replies of that log were written to the output, followed by the line that refuses an event,
-/// if one was refused. The audit lines of the log were written to the audit.
+/// The replies of that log were written to the output. If a line of the events was refused, the
+/// line that says so follows. A line for each reply was written to the audit.
 pub fn headline<L>()
     ensures { (words : List (List ℕ)) (replay : Replay) (given : Given) (top : TopRun L) →
         IsTopRun words top → command_of words ≡ Some (commands.Replay replay) →
@@ -81,7 +83,7 @@ pub fn hidden_changes_no_byte<L, M>()
         IsReplayTold one → IsReplayTold two → HideAlike replay again given one two }
 {}
 
-/// A write under a path condition, for example an update's, leaves all other worlds alone.
+/// If a write has a path condition, it changes no world in which the condition is false.
 pub fn update_leaves_others()
     ensures { (step : (ℕ → Bool) → PlainTables → PlainTables) (pc : List (ℕ × Bool)) →
         (old new : State) (n : ℕ) → Writes step pc old new → IsSound (numbered_tables n old) →
