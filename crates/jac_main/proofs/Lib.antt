@@ -1,1 +1,2 @@
 mod Promised
+mod Refused

@@ -8,9 +8,11 @@ use Rattle.jac_cli.specs.declared.words.Replay.{Replay}
 use Rattle.jac_cli.specs.declared.words.ServeArgs.{ServeArgs}
 use Rattle.jac_command_base.specs.Files.{Sight}
 use Rattle.jac_command_base.specs.declared.status.Status.{Status}
+use Rattle.jac_command_base.specs.declared.status.Status.TheVariants as statuses
 use Rattle.jac_run_laws.specs.Replayed.{TopRun, IsTopRun, IsToldToEnd}
 use Rattle.jac_reopen.specs.Reopened.{Supposed}
 use Rattle.jac_main.specs.Start.{BeginsSupposed}
+use Rattle.jac_main.specs.Refused.{IsOtherLeft}
 use Rattle.jac_headline.specs.Headline.{Given, HoldGiven, IsReplayTold, HasReplayedFaithfully, HasServedFaithfully}
 
 abbrev pub top_run : {L : Type 0} → (L → LinkSeen) → Sight → Span (DoorSeen L) → Span ℕ
@@ -25,7 +27,7 @@ top_run line seen door splits evaluations status = record {
 }
 
 -- its store begins empty, or as its file is supposed to; the contract of the top call holds; a
--- replay or a serve that is told to its end is faithful
+-- replay or a serve that is told to its end is faithful; and a run with status 9 attached no store
 pub record KeepsPromise {L : Type 0} (s : Supposed) (words : List (List ℕ)) (top : TopRun L) :
     Type 0 where
   pub begins : BeginsSupposed s words top.seen.keeper.before
@@ -36,3 +38,4 @@ pub record KeepsPromise {L : Type 0} (s : Supposed) (words : List (List ℕ)) (t
       → IsReplayTold top → HasReplayedFaithfully replay given top
   pub serves : (serving : ServeArgs) → command_of words ≡ Some (commands.Serve serving)
       → IsToldToEnd top → HasServedFaithfully serving top
+  pub other_store : top.status ≡ statuses.OtherStore → IsOtherLeft top.seen.keeper

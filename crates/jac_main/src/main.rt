@@ -7,6 +7,9 @@ ghost use Rattle.jac_host.specs.Sinks.{sink_seen};
 ghost use Rattle.jac_host.specs.Links.{door_seen};
 ghost use Rattle.jac_serve_events.specs.Outside.{span};
 ghost use Rattle.jac_command_base.specs.Files.{sight};
+ghost use Rattle.jac_sqlkeep.specs.Kept.{seen_kept};
+ghost use Rattle.jac_host_vault.specs.HostSeen.{LeavesFile};
+ghost use Rattle.jac_host_vault.specs.Left.{IsFileLeft};
 ghost use Rattle.jac_main.specs.Promise.{KeepsPromise, top_run};
 ghost use Rattle.jac_main.specs.Start.{BeginsSupposed, has_file};
 
@@ -89,7 +92,7 @@ struct Host<'h, O: Outside> {
 // is what is supposed of the outside: where the files that were read and the input that was taken
 // are as it says, each clause holds of the bytes that writes took. `F` opens the store's file, and
 // supposes what it holds: where its bytes are as it says, each clause on what stood there holds of
-// the store that they stand for.
+// the store that they stand for. A file that isn't attached at the end is left as it was opened.
 fn run_host<O: Outside, F: FileOpens, L: Ledger, M: Ledger>(
     alloc: Global,
     words: &[Txt],
@@ -108,7 +111,7 @@ fn run_host<O: Outside, F: FileOpens, L: Ledger, M: Ledger>(
         ≡ false }
     requires begins { BeginsSupposed F.holds words.now
         (⟦<HostVault<FileMaker<F>> as Keeper>⟧.seen vault.old) }
-    ensures { KeepsPromise F.holds words.now (top_run ⟦<HostLink<O> as Link>⟧.seen
+    ensures promise { KeepsPromise F.holds words.now (top_run ⟦<HostLink<O> as Link>⟧.seen
         (sight (files_seen O.file [] 0) (⟦<HostFiles<'static, O> as Files>⟧.seen host.new.files)
         (sink_seen [] 0) (⟦<Stdout<'static> as Sink>⟧.seen host.new.out)
         (sink_seen [] 0) (⟦<HostAudit<'static> as Sink>⟧.seen host.new.audit)
@@ -116,8 +119,10 @@ fn run_host<O: Outside, F: FileOpens, L: Ledger, M: Ledger>(
         (⟦<HostVault<FileMaker<F>> as Keeper>⟧.seen vault.new))
         (span (door_seen O.inputs [] [] 0) (⟦<HostDoor<'static, O> as Door>⟧.seen host.new.door))
         (span splits.old splits.new) (span evaluations.old evaluations.new) result) }
+    ensures left { LeavesFile seen_kept (λ name. IsFileLeft F.Store.Store (F.Opener.gives name))
+        vault.new }
 {
-    run(
+    let status = run(
         alloc,
         words,
         &mut host.files,
@@ -127,7 +132,9 @@ fn run_host<O: Outside, F: FileOpens, L: Ledger, M: Ledger>(
         &mut host.door,
         splits,
         evaluations,
-    )
+    );
+    vault.stand();
+    status
 }
 
 // The store that these words ask for: in memory, which holds nothing and tells so from now on,

@@ -2,5 +2,5 @@ use Rattle.std.proofs.Common.{rules}
 use Rattle.jac_main.proofs.Promised.{promised}
 use Rattle.jac_main.proofs.run_host.Goals as goal
 
-pub returns : goal.returns
-returns g c = promised _ _ _ c.requires.begins (search rules)
+pub returns-clause-promise : goal.returns-clause-promise
+returns-clause-promise g c = promised _ _ _ c.requires.begins (search rules)
