@@ -1,8 +1,9 @@
 pub mod AtTuples
 pub mod Bound
-pub mod FewerRows
 pub mod Joining
+pub mod Leaves
 pub mod Names
 pub mod Rows
+pub mod Searching
 pub mod Widths
 pub mod Working

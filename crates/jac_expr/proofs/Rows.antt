@@ -4,6 +4,8 @@ use Rattle.std.specs.List.{filter}
 use Rattle.std.proofs.lemmas.Option.{slice_get-map}
 use Rattle.jac_value.specs.declared.value.Value.{Value}
 use Rattle.jac_value.specs.declared.value.Value.TheVariants as value
+use Rattle.jac_value.specs.Values.{default_value}
+use Rattle.jac_lang.specs.Lookup.{model_place, fields_at, field_place, kind_at}
 use Rattle.jac_world.specs.World.{holds}
 use Rattle.jac_rows.specs.declared.row.Row.{Row}
 use Rattle.jac_rows.specs.declared.plain.PlainRow.{PlainRow}
@@ -11,7 +13,7 @@ use Rattle.jac_rows.specs.Project.{rows_at}
 use Rattle.jac_rows.specs.Tables.{rows_of, rows_or_none}
 use Rattle.jac_keep.specs.Records.{alternatives}
 use Rattle.jac_query.specs.Field.{field_of, value_or}
-use Rattle.jac_plain.specs.World.{World, record_with, cell_of}
+use Rattle.jac_plain.specs.World.{World, record_with, referred_record, cell_of, got}
 use Rattle.jac_plain.specs.Expressions.{is_live, stands}
 use Rattle.jac_expr.specs.Leafed.{first_row, stood_by, stands_in}
 
@@ -90,3 +92,8 @@ live-is w (value.Ref None) = refl
 live-is w (value.Int i) = refl
 live-is w (value.Text t) = refl
 live-is w (value.Bool b) = refl
+
+-- a cell that is read at its place
+pub got-is : (w : World) (model field : List ℕ) (m f : ℕ) (absent v : Value) → model_place w.models model ≡ Some m → field_place (fields_at w.models m) field ≡ Some f →
+    absent ≡ default_value (kind_at w.models (fields_at w.models m) f) → cell_of (referred_record v (rows_of w.tables m)) f absent ≡ got w model field v
+got-is w model field m f absent v of_model of_field default = rw (of_model, of_field, default) refl

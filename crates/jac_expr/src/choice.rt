@@ -5,7 +5,6 @@ ghost use Rattle.jac_world.specs.World.{holds};
 ghost use Rattle.jac_facet.specs.Shape.{at};
 ghost use Rattle.jac_facet.specs.Leaves.{leaves_seen};
 ghost use Rattle.jac_plain.specs.Expressions.{is_true, pick, two};
-ghost use Rattle.jac_expr.specs.Leafed.{last_by};
 
 use jac_facet::Facet;
 use jac_lang::Op;
@@ -85,23 +84,9 @@ pub(crate) fn choose<L: Ledger>(
         → at w f ≡ pick (is_true (at w condition.now)) (at w first.now) (at w second.now)) }
 {
     let leaves = condition.leaves_under(alloc, pc)?;
-    let chosen = choose_by(alloc, leaves.as_slice(), first, second, splits)?;
-    Ok(chosen)
-}
-
-fn choose_by<L: Ledger>(
-    alloc: Global,
-    leaves: &[(Guard, Value)],
-    first: &Facet<Value>,
-    second: &Facet<Value>,
-    splits: &mut Steps<L>,
-) -> Result<Facet<Value>, Memory>
-    ensures { IfOk result (λ f. (w : ℕ → Bool)
-        → at w f ≡ last_by (λ v. pick (is_true v) (at w first.now) (at w second.now))
-        (at w second.now) (leaves_seen w leaves.now)) }
-{
+    let all = leaves.as_slice();
     let mut chosen = second.copy(alloc)?;
-    'leaves: for leaf in leaves {
+    'leaves: for leaf in all {
         let side = side_of(&leaf.1, first, second);
         chosen = Facet::under(alloc, &leaf.0, side, &chosen, splits)?;
     }

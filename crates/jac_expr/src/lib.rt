@@ -7,15 +7,10 @@ mod choice;
 mod env;
 mod evaluation;
 mod faceted_context;
-mod marks;
 mod operations;
 mod order;
-mod presence;
-mod product;
 mod reading;
-mod scope;
 mod search;
-mod texts;
 
 pub use binding::bind_tuple;
 pub use env::Env;

@@ -15,15 +15,14 @@ ghost use Rattle.jac_plain.specs.Shown.{world_at};
 
 use crate::Env;
 use crate::binding::{bind_tuple, binder_model};
+use crate::env::look_up;
 use crate::reading::get;
-use crate::scope::look_up;
 use jac_facet::{Facet, Facets};
 use jac_keep::{Keeper, Stop, Work};
 use jac_lang::{App, Binders, Order};
 use jac_query::{Tuple, Tuples, order};
-use jac_value::{Memory, Txt, Value};
+use jac_value::{Txt, Value};
 use jac_world::Steps;
-use std::alloc::Global;
 use std::sync::ledger::Ledger;
 
 /// What tuples are put in order by: a field of this binder's records.
@@ -92,8 +91,7 @@ fn sort_by<K: Keeper, L: Ledger>(
 {
     let all = tuples.as_slice();
     let keys = keys_of(work, app, key, all, splits)?;
-    let sorted = order(work.alloc, tuples, &keys, down, splits)?;
-    Ok(sorted)
+    Ok(order(work.alloc, tuples, &keys, down, splits)?)
 }
 
 // The field of this binder's record, of each tuple.
@@ -138,23 +136,8 @@ fn key_at<K: Keeper, L: Ledger>(
         key.now.name.now)) }
     ensures reads { ReadsWork K.seen work.old work.new result }
 {
-    let record = bound_name(work.alloc, key.binders, tuple, key.name)?;
-    let value = get(work, app, &tuple.guard, model, key.field, &record, splits)?;
-    Ok(value)
-}
-
-// The record of the binder of this name.
-fn bound_name(
-    alloc: Global,
-    binders: &Binders,
-    tuple: &Tuple,
-    name: &Txt,
-) -> Result<Facet<Value>, Memory>
-    ensures { IfOk result (λ f. (w : ℕ → Bool)
-        → at w f ≡ look (bound (binders_of binders.now) tuple.now.ids []) name.now) }
-{
-    let mut env = Env::empty(alloc);
-    bind_tuple(alloc, &mut env, binders, &tuple.ids)?;
-    let record = look_up(alloc, &env, name)?;
-    Ok(record)
+    let mut env = Env::empty(work.alloc);
+    bind_tuple(work.alloc, &mut env, key.binders, &tuple.ids)?;
+    let record = look_up(work.alloc, &env, key.name)?;
+    Ok(get(work, app, &tuple.guard, model, key.field, &record, splits)?)
 }

@@ -12,5 +12,5 @@ pub returns-clause-sorted : goal.returns-clause-sorted
 returns-clause-sorted g c told ctx w =
     let key = key_of (world_at c.args.app.now ctx (state_of g.K.Keeper.seen c.args.work.now) w) (binders_of c.args.key.now.binders.now) c.args.key.now.name.now c.args.key.now.field.now in
     let all : c.as_slice-all.result.now ≡ c.args.tuples.now = search rules in
-    c.in_ok-sorted.ensures.live w
+    c.in_ok-order.ensures.live w
     ∙ in_order-shown c.args.down key (live w c.args.tuples.now) (marked_tuples w c.args.tuples.now c.in_ok-keys.keys) (rw all at (c.in_ok-keys.ensures.keys told ctx w))

@@ -15,5 +15,5 @@ invariant-leaves g l =
     let k = g.K.Keeper in
     LoopOver k.seen l.fn.work l.work
     ((w : ℕ → Bool) →
-    let cell = λ (v : Value). cell_of (referred_record v (rows_of (project_at w (state_of k.seen l.fn.work)).tables l.model)) l.field l.absent in
+    let cell = λ (v : Value). cell_of (referred_record v (rows_of (project_at w (state_of k.seen l.fn.work)).tables l.place.model)) l.place.field l.absent in
     last_by cell (at w l.read) (leaves_seen w (drop l.leaf-index l.leaves)) ≡ last_by cell l.absent (leaves_seen w l.leaves))
