@@ -12,6 +12,7 @@ mod column;
 mod comparison;
 mod evaluation;
 mod kept_names;
+mod lent_table;
 mod one_sorted;
 mod order;
 mod page_buffer;
@@ -24,6 +25,7 @@ mod run;
 mod scope;
 mod support;
 mod texts;
+mod value_bytes;
 mod wants;
 mod world_context;
 

@@ -7,6 +7,7 @@ ghost use Rattle.jac_plain.specs.Pieces.{piece_of};
 ghost use Rattle.jac_value.specs.Html.{html};
 ghost use Rattle.jac_pruned.specs.Buffers.{buffer_for, buffer_of, page_in, buffer_with};
 
+use crate::value_bytes::{add_escaped, add_text};
 use jac_plain::{Form, Page, make_page};
 use jac_value::{Bytes, Memory, Txt, Value};
 use std::alloc::Global;
@@ -44,7 +45,7 @@ impl PageBuffer {
         ensures { OnOk result (buffer_of self.new ≡ buffer_with
             (piece.Added (value_text value.now)) (buffer_of self.old)) }
     {
-        jac_plain::add_text(alloc, &mut self.body, value)
+        add_text(alloc, &mut self.body, value)
     }
 
     /// Adds the text of the value as HTML shows it.
@@ -52,7 +53,7 @@ impl PageBuffer {
         ensures { OnOk result (buffer_of self.new ≡ buffer_with
             (piece.Added (html (value_text value.now))) (buffer_of self.old)) }
     {
-        jac_plain::add_escaped(alloc, &mut self.body, value)
+        add_escaped(alloc, &mut self.body, value)
     }
 
     /// Adds what the value adds in this form.

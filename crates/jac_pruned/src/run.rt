@@ -24,7 +24,7 @@ use crate::kept_names::{rebind, rebind_tuple, unbind};
 use crate::page_buffer::PageBuffer;
 use crate::page_cells::{PageCell, add_got};
 use crate::progress::Progress;
-use crate::scope::text_at_hand;
+use crate::scope::{bound_value, text_at_hand};
 use crate::world_context::WorldContext;
 use jac_keep::{Keeper, Stop, Work};
 use jac_lang::{Binder, Binders, Expr, PlainEnv, Query, Stmt, Stmts};
@@ -212,6 +212,34 @@ fn show_cell<K: Keeper>(
     ensures reads { ReadsWork K.seen work.old work.new result }
     ensures grows { Grows support.old support.new }
 {
+    match bound_value(run.env.as_slice(), of) {
+        Some(value) => {
+            add_got(work, at, cell, value, &mut run.page, support)?;
+            Ok(())
+        }
+        None => show_evaluated(work, at, run, cell, of, support),
+    }
+}
+
+// The same where the reference is evaluated first.
+fn show_evaluated<K: Keeper>(
+    work: &mut Work<'_, K>,
+    at: &WorldContext<'_>,
+    run: &mut Progress,
+    cell: &PageCell<'_>,
+    of: &Expr,
+    support: &mut Support,
+) -> Result<(), Stop>
+    requires attached { IsTrue (K.seen work.old.keeper.now).store.attached }
+    requires no_record { at.now.ctx.now.this ≡ None }
+    ensures left { IsTold K.seen work.new
+        → OnOk result (RunsShown support.new at.now
+        (λ w r. with_piece (piece_of cell.now.form (value_in (setting_at at.now.app.now
+        at.now.ctx.now w) (Expression.get cell.now.model.now cell.now.field.now
+        (expression_of of.now)) r)) r) (state_of K.seen work.old) run.old run.new) }
+    ensures reads { ReadsWork K.seen work.old work.new result }
+    ensures grows { Grows support.old support.new }
+{
     let value = eval(work, at, run.env.as_slice(), of, support)?;
     add_got(work, at, cell, &value, &mut run.page, support)?;
     Ok(())
@@ -266,8 +294,34 @@ fn execute_escape<K: Keeper>(
     }
 }
 
-// Adds the HTML escape of the text of a value that is evaluated first.
+// Adds the HTML escape of the text of a value, which is lent if it is at hand.
 fn escape_value<K: Keeper>(
+    work: &mut Work<'_, K>,
+    at: &WorldContext<'_>,
+    run: &mut Progress,
+    e: &Expr,
+    support: &mut Support,
+) -> Result<(), Stop>
+    requires attached { IsTrue (K.seen work.old.keeper.now).store.attached }
+    requires no_record { at.now.ctx.now.this ≡ None }
+    ensures left { IsTold K.seen work.new
+        → OnOk result (RunsShown support.new at.now
+        (λ w. leaves (setting_at at.now.app.now at.now.ctx.now w)
+        (Statement.escape (expression_of e.now))) (state_of K.seen work.old) run.old run.new) }
+    ensures reads { ReadsWork K.seen work.old work.new result }
+    ensures grows { Grows support.old support.new }
+{
+    match bound_value(run.env.as_slice(), e) {
+        Some(value) => {
+            run.page.add_escaped(work.alloc, value)?;
+            Ok(())
+        }
+        None => escape_evaluated(work, at, run, e, support),
+    }
+}
+
+// The same for a value that is evaluated first.
+fn escape_evaluated<K: Keeper>(
     work: &mut Work<'_, K>,
     at: &WorldContext<'_>,
     run: &mut Progress,

@@ -23,6 +23,26 @@ pub(crate) fn look_up(alloc: Global, env: &[Binding], name: &Txt) -> Result<Valu
     }
 }
 
+/// What a name is bound to, lent, if the expression is a name that is bound.
+pub(crate) fn bound_value<'e>(env: &'e [Binding], e: &Expr) -> Option<&'e Value>
+    ensures { IfSome result (λ v. (w : World)
+        → v.now ≡ mean w (expression_of e.now) env.now) }
+{
+    match e {
+        Expr::Name(name) => value_bound(env, name),
+        _ => None,
+    }
+}
+
+fn value_bound<'e>(env: &'e [Binding], name: &Txt) -> Option<&'e Value>
+    ensures { IfSome result (λ v. v.now ≡ look env.now name.now) }
+{
+    match innermost(env, name) {
+        Some(value) => Some(value),
+        None => None,
+    }
+}
+
 /// The text of an expression that is a text, or a name bound to one.
 pub(crate) fn text_at_hand<'e>(env: &'e [Binding], e: &'e Expr) -> Option<&'e [u8]>
     ensures { IfSome result (λ t. (w : World)

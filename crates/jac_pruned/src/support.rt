@@ -12,11 +12,13 @@ use std::marker::Model;
 /// The labels that were consulted, by rising number. None is taken away. What was found stays right
 /// under each assignment that shows the same of them.
 ///
-/// Labels are mostly consulted by rising number, so that each is first sought near the one before
-/// it. No answer depends on where that stands.
+/// Labels are mostly consulted by rising number, or once more. So each is first sought where the
+/// one before it stands. No answer depends on that place.
 #[derive(Drop)]
 pub struct Support {
     labels: Vec<Label>,
+    // where the last label stands that was consulted before
+    last: usize,
     // where in an assignment the last label stands that was found there
     near: usize,
 }
@@ -38,6 +40,7 @@ impl Support {
     {
         Support {
             labels: Vec::new(alloc),
+            last: 0,
             near: 0,
         }
     }
@@ -62,7 +65,7 @@ impl Support {
             → shown_by self.new k ≡ (label == k || shown_by self.old k)) }
         ensures grows { Grows self.old self.new }
     {
-        add_label(&mut self.labels, label)
+        add_near(&mut self.labels, label, &mut self.last)
     }
 
     // Whether the guard of these pairs holds.
@@ -71,6 +74,38 @@ impl Support {
         ensures same { self.new ≡ self.old }
     {
         are_met(pairs, assignment, &mut self.near)
+    }
+}
+
+// The same labels and this one, which is first sought at the place.
+fn add_near(labels: &mut Vec<Label>, label: Label, last: &mut usize) -> Result<(), Memory>
+    requires { IsAscending labels.old.items }
+    ensures added { OnOk result ((k : ℕ) → shown_by labels.new.items k
+        ≡ (label == k || shown_by labels.old.items k)) }
+    ensures ascending { IsAscending labels.new.items }
+    ensures grows { Grows labels.old.items labels.new.items }
+{
+    if was_consulted(labels.as_slice(), label, last) {
+        return Ok(());
+    }
+    add_label(labels, label)
+}
+
+// Whether the label is among the labels. One above them all isn't sought.
+fn was_consulted(labels: &[Label], label: Label, last: &mut usize) -> bool
+    requires { IsAscending labels.now }
+    ensures { result ≡ true → shown_by labels.now label ≡ true }
+{
+    if is_above(labels, label) {
+        return false;
+    }
+    is_shown(labels, label, last)
+}
+
+fn is_above(labels: &[Label], label: Label) -> bool {
+    match labels.last() {
+        Some(greatest) => *greatest < label,
+        None => true,
     }
 }
 

@@ -7,7 +7,7 @@ use Rattle.jac_pruned.specs.Comparisons.{comparison_value, ids_compared}
 use Rattle.jac_pruned.specs.Consulted.{Agrees, Grows}
 use Rattle.jac_pruned.specs.Own.{IsOwn, is_own_table}
 use Rattle.jac_pruned.proofs.Working.{LoopOver}
-use Rattle.jac_pruned.proofs.comparison.keep_compared.Given as goal
+use Rattle.jac_pruned.proofs.comparison.keep_each.Given as goal
 
 -- the ids kept so far, before those of the ids that are left, are all that are kept
 abbrev pub invariant-ids : goal.invariant-ids
