@@ -101,8 +101,8 @@ fn make_lines(
 
 /// Answers one request and stores its change. The lines of its reply are made first, so nothing is
 /// stored without them. The viewer's cache is kept, and what the change may affect in it is settled
-/// again. A lazily made page neither uses nor changes it. After a fault of the keeper all caches are
-/// dropped, since the store may hold something else then.
+/// again. A lazily made page neither uses nor changes it. After a fault of the keeper all caches
+/// are dropped, since the store may hold something else then.
 pub fn answer_ask<K: Keeper, L: Ledger, M: Ledger>(
     dispatcher: &mut AppDispatcher<'_, '_, '_, '_, '_, '_, K, L, M>,
     via: RequestSource,

@@ -31,7 +31,8 @@ use Rattle.jac_rows.specs.Tables.{rows_of}
 use Rattle.jac_keep.specs.Records.{alternatives, with_id}
 use Rattle.jac_keep.specs.MatchingRecords.{holders, holds_cell}
 use Rattle.jac_value.specs.contracts.value.ValuePartialEq.TheImpl as equality
-use Rattle.jac_pruned.specs.Wanted.{Wanted, behind_first, first_shown, firsts_wanted, rows_with_value, rows_wanted, shown_wanted, tuples_wanted}
+use Rattle.jac_index_choice.specs.Fixed.{behind_first}
+use Rattle.jac_pruned.specs.Wanted.{Wanted, first_shown, firsts_wanted, rows_with_value, rows_wanted, shown_wanted, tuples_wanted}
 use Rattle.jac_plain.specs.Expressions.{mean, is_true, two, nearest, look_from, bound, binding, extended_tuples, crossed_tuples, tuples_from, kept_by, with_sorted, sorted_tuples, ordered_tuples, answers_by, is_less, key_of, summed_terms, some_of, first_of, pick, is_single, model_of_binder}
 use Rattle.jac_pruned.specs.Local.{is_free, is_free_place, is_free_model, is_free_kind, is_free_field_at, is_free_field_in, is_free_viewer_of, is_free_viewer, are_free, is_free_order, refers_free, IsOwnLabel, IsOfViewers, IsLocalCase}
 use Rattle.jac_plain.specs.Models.{is_none, shapes_of, kinds_of_fields, shapes_of_models}
