@@ -1,5 +1,5 @@
 -- What a run sees of the machine, and the files that it reads.
-use Rattle.std.specs.Prelude.{◌≡◌, ◌≤◌, ◌<◌, ◌⊎◌, ⊤, ℕ, is_some, IsTrue, IsSomeAnd, Ok, Err, Option, Some, None, List, [], ◌∷◌, ◌++◌, length}
+use Rattle.std.specs.Prelude.{◌≡◌, ◌≤◌, ◌<◌, ◌⊎◌, ⊤, ℕ, is_some, IsTrue, IsSomeAnd, Ok, Err, Option, Some, None, option_to_list, List, [], ◌∷◌, ◌++◌, length}
 use Rattle.jac_io.specs.Faults.{Rose}
 use Rattle.jac_io.specs.Seen.{FilesSeen, SinkSeen}
 use Rattle.jac_lang.specs.Syntax.{Application}
@@ -40,6 +40,28 @@ standing_at seen standing = record seen { out = span seen.out.before standing }
 
 abbrev pub sinks_of : Sight → Sinks
 sinks_of seen = record { out = seen.out; audit = seen.audit }
+
+-- the files that a command names, in the order in which it reads them
+abbrev pub files_of : Command → List (List ℕ)
+files_of command =
+    option_to_list (file_of command roles.App) ++ option_to_list (file_of command roles.New)
+    ++ option_to_list (file_of command roles.Sessions) ++ option_to_list
+    (file_of command roles.Events)
+
+-- those of words, which name none where they are no command
+abbrev pub files_named : Option Command → List (List ℕ)
+files_named None = []
+files_named (Some command) = files_of command
+
+-- of these files the first ones were asked for, in order, each as often as it is named; and no
+-- other file was. Where all is done, all of them were
+pub record AsksForFiles (files : Span FilesSeen) (names : List (List ℕ)) (done : Type 0) : Type 0
+  where
+    pub front : List (List ℕ)
+    pub rest : List (List ℕ)
+    pub parts : names ≡ front ++ rest
+    pub asked : files.after.asked ≡ files.before.asked ++ front
+    pub all : done → rest ≡ []
 
 -- the file of this name and role was read whole
 pub record IsReadAs (files : Span FilesSeen) (name : List ℕ) (role : Role) (bytes : List ℕ) : Type 0

@@ -1,4 +1,4 @@
-ghost use Rattle.std.specs.Prelude.{◌≡◌, ◌⊎◌, ◌≤◌, length, IsTrue, IfOk, IfErr, Some, Ok};
+ghost use Rattle.std.specs.Prelude.{◌≡◌, ◌⊎◌, ◌≤◌, ◌∷◌, ◌++◌, [], length, option_to_list, IsTrue, IfOk, IfErr, Some, Ok};
 ghost use Rattle.std.specs.Option.{option_copied};
 ghost use Rattle.jac_io.specs.Seen.{FilesLast};
 ghost use Rattle.jac_lang.specs.Mirror.{application_of};
@@ -23,6 +23,7 @@ pub fn read_file<F: Files>(
     name: &Txt,
     role: Role,
 ) -> Result<Bytes, ExitReason>
+    ensures asked { (F.seen files.new).asked ≡ (F.seen files.old).asked ++ name.now ∷ [] }
     ensures lasts { FilesLast (F.seen files.old) (F.seen files.new) }
     ensures short { IfOk result (λ bytes. length bytes ≤ limit_of role) }
     ensures told { IsTrue (F.seen files.new).tells
@@ -55,6 +56,7 @@ pub fn open_app(alloc: Global, bytes: &[u8]) -> Result<Service, ExitReason>
 
 /// The application of the file of this name.
 pub fn read_app<F: Files>(alloc: Global, files: &mut F, name: &Txt) -> Result<Service, ExitReason>
+    ensures asked { (F.seen files.new).asked ≡ (F.seen files.old).asked ++ name.now ∷ [] }
     ensures lasts { FilesLast (F.seen files.old) (F.seen files.new) }
     ensures spelled { IfOk result (λ service. IsSpelledIn
         (span (F.seen files.old) (F.seen files.new)) name.now (application_of service)) }
@@ -111,6 +113,8 @@ pub fn read_sessions<F: Files>(
     files: &mut F,
     name: Option<&Txt>,
 ) -> Result<Sessions, ExitReason>
+    ensures asked { (F.seen files.new).asked ≡ (F.seen files.old).asked ++ option_to_list
+        (option_copied name.entry) }
     ensures lasts { FilesLast (F.seen files.old) (F.seen files.new) }
     ensures had { IfOk result (HasSessions (span (F.seen files.old) (F.seen files.new))
         (option_copied name.entry)) }

@@ -1,5 +1,5 @@
 //! How a command that answers over a store begins.
-ghost use Rattle.std.specs.Prelude.{◌≡◌, IfErr, IfOk, false};
+ghost use Rattle.std.specs.Prelude.{◌≡◌, ◌++◌, option_to_list, IfErr, IfOk, IsOk, false};
 ghost use Rattle.std.specs.Option.{option_copied};
 ghost use Rattle.jac_io.specs.Seen.{FilesLast};
 ghost use Rattle.jac_lang.specs.Mirror.{application_of};
@@ -8,6 +8,7 @@ ghost use Rattle.jac_keep.specs.Schema.{IsSchema};
 ghost use Rattle.jac_app_load.specs.Application.{schema_text};
 ghost use Rattle.jac_serve_events.specs.Outside.{span};
 ghost use Rattle.jac_cli.specs.Commands.{db_of, file_of, name_of};
+ghost use Rattle.jac_command_base.specs.Files.{AsksForFiles, files_of};
 ghost use Rattle.jac_command_base.specs.Startup.{command_in, AreFilesRead, BeginsAs, EndsAim, EndsAiming, EndsReading, HasEvents, IsEventless, OpensAs};
 
 use crate::attachment::attach;
@@ -92,6 +93,8 @@ fn read_events<F: Files>(
     files: &mut F,
     name: Option<&Txt>,
 ) -> Result<Bytes, ExitReason>
+    ensures asked { (F.seen files.new).asked ≡ (F.seen files.old).asked ++ option_to_list
+        (option_copied name.entry) }
     ensures lasts { FilesLast (F.seen files.old) (F.seen files.new) }
     ensures had { IfOk result (HasEvents (span (F.seen files.old) (F.seen files.new))
         (option_copied name.entry)) }
@@ -114,6 +117,8 @@ fn open_files<F: Files>(
     opening: StoreCommand<'_>,
     files: &mut F,
 ) -> Result<Opened, ExitReason>
+    ensures asks { AsksForFiles (span (F.seen files.old) (F.seen files.new))
+        (files_of (command_in opening.entry)) (IsOk result) }
     ensures read { IfOk result (λ opened. AreFilesRead (command_in opening.entry)
         (span (F.seen files.old) (F.seen files.new)) (application_of opened.service)
         opened.sessions opened.events) }
@@ -204,7 +209,9 @@ pub fn open_store<F: Files, U: AuditSink, K: Vault>(
     vault: &mut K,
 ) -> Result<Opened, ExitReason>
     requires first { (K.seen vault.old).store.called ≡ false }
-    ensures { OpensAs (command_in opening.entry) (span (F.seen files.old) (F.seen files.new))
+    ensures asks { AsksForFiles (span (F.seen files.old) (F.seen files.new))
+        (files_of (command_in opening.entry)) (IsOk result) }
+    ensures opens { OpensAs (command_in opening.entry) (span (F.seen files.old) (F.seen files.new))
         (span (U.seen audit.old) (U.seen audit.new)) (span (K.seen vault.old) (K.seen vault.new))
         result }
 {

@@ -26,7 +26,8 @@ use Rattle.jac_app.specs.Run.{Ends, Runs}
 use Rattle.jac_noninterference.specs.TwoRuns.{LookSame, NoneFailed}
 use Rattle.jac_run_laws.specs.Replayed.{TopRun, IsTopRun, IsToldToEnd, HoldSessions, TellsNoFailure, TellsPage, HaveSmallLabels, counts_of}
 use Rattle.jac_run_laws.specs.Doors.{HoldServing, HasServed, AreTakenAlike, HoldSameMore}
-use Rattle.jac_run_laws.proofs.Replays.{not_done, no_usage, no_memory, closes_not_done, same_command, sessions_held}
+use Rattle.jac_command_base.proofs.DoneLemmas.{not_done, no_usage, no_memory, closes_not_done}
+use Rattle.jac_run_laws.proofs.Replays.{same_command, sessions_held}
 use Rattle.jac_run_laws.proofs.SameReplays.{AreSameFiles, same_bytes, one_sessions}
 use Rattle.jac_run_laws.proofs.AuditLines.{none_failed, looks_same, labels_by_text}
 use Rattle.jac_run_laws.proofs.DoorLinks.{AreLinksAlike, links_agree, links_hold}

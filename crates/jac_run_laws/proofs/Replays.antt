@@ -16,16 +16,16 @@ use Rattle.jac_cli.specs.declared.words.Command.TheVariants as commands
 use Rattle.jac_cli.specs.declared.words.Replay.{Replay}
 use Rattle.jac_cli.specs.Words.{command_of}
 use Rattle.jac_command_base.specs.declared.exit_reason.ExitReason.{ExitReason}
-use Rattle.jac_command_base.specs.declared.exit_reason.ExitReason.TheVariants as exits
 use Rattle.jac_command_base.specs.declared.status.Status.{Status}
 use Rattle.jac_command_base.specs.declared.status.Status.TheVariants as statuses
 use Rattle.jac_dispatch.specs.Answered.{answer_spec_of}
-use Rattle.jac_command_base.specs.ExitReason.{status_of, Closes, Finishes}
+use Rattle.jac_command_base.specs.ExitReason.{status_of, Finishes}
 use Rattle.jac_command_base.specs.Files.{standing_at, HasSessions, IsOpened, sinks_of}
 use Rattle.jac_dispatch.specs.Log.{Serves}
 use Rattle.jac_app.specs.Held.{held_of}
 use Rattle.jac_app.specs.Replay.{IsServedOn, IsServing, EndsReplay}
 use Rattle.jac_app.specs.Run.{Ends, Runs}
+use Rattle.jac_command_base.proofs.DoneLemmas.{not_done, no_usage, no_memory, closes_not_done}
 use Rattle.jac_run_laws.specs.Replayed.{TopRun, IsTopRun, IsToldToEnd, HoldSessions, HasReplayed, counts_of}
 
 -- what the top call promises of the events that an application was served
@@ -39,36 +39,6 @@ serves lazy early app sessions k events log served told = record {
   goes_on = served.entries.goes_on told;
   good = served.entries.good told;
 }
-
--- ---- status 0 comes where nothing ended early
-
-pub not_done : (exit_reason : ExitReason) → status_of exit_reason ≡ statuses.Done → ⊥
-not_done (exits.ReadFault role) e = cc
-not_done (exits.TooLong role) e = cc
-not_done (exits.AppRefused line) e = cc
-not_done (exits.NewRefused line) e = cc
-not_done (exits.UpgradeRefused line) e = cc
-not_done (exits.LineRefused event_fault) e = cc
-not_done (exits.SessionsRefused line) e = cc
-not_done exits.WriteFault e = cc
-not_done exits.StoreFault e = cc
-not_done exits.DoorFault e = cc
-not_done (exits.OtherStore stored wanted) e = cc
-not_done exits.Memory e = cc
-
-pub no_usage : statuses.Usage ≡ statuses.Done → ⊥
-no_usage e = cc
-
-pub no_memory : statuses.Memory ≡ statuses.Done → ⊥
-no_memory e = cc
-
-no_write : statuses.WriteFault ≡ statuses.Done → ⊥
-no_write e = cc
-
-pub closes_not_done : (out : Span SinkSeen) (line put : List ℕ) (status answer : Status) → (status ≡ statuses.Done → ⊥)
-    → Closes out line status put answer → answer ≡ statuses.Done → ⊥
-closes_not_done out line put status answer never (inl h) done = never (sym h.1 ∙ done)
-closes_not_done out line put status answer never (inr h) done = no_write (sym h.1 ∙ done)
 
 pub same_command : (one two : Command) → Some one ≡ Some two → one ≡ two
 same_command one two same = cc

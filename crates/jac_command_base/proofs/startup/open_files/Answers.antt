@@ -1,11 +1,60 @@
+use Rattle.std.specs.Prelude.{option_to_list}
+use Rattle.std.proofs.Common.{List, ℕ, [], ◌∷◌, ◌++◌}
 use Rattle.jac_lang.specs.Mirror.{application_of}
 use Rattle.jac_cli.specs.declared.role.Role.TheVariants as roles
 use Rattle.jac_cli.specs.Commands.{file_of, name_of}
 use Rattle.jac_serve_events.specs.Outside.{span}
+use Rattle.jac_command_base.specs.Files.{files_of}
 use Rattle.jac_command_base.specs.Startup.{command_in, sight_of}
+use Rattle.jac_command_base.proofs.AskedLemmas.{asked_in_order, asked_then, asks_all, files_in_order}
 use Rattle.jac_command_base.proofs.ExitReasonLemmas.{sessionless_ends, sessions_within}
 use Rattle.jac_command_base.proofs.StartupLemmas.{appless_ends, eventless_ends, events_within, files_last, files_then, spelled_application, spelled_within, within_between}
 use Rattle.jac_command_base.proofs.startup.open_files.Goals as goal
+
+pub returns-in-Err-clause-asks : goal.returns-in-Err-clause-asks
+returns-in-Err-clause-asks g c =
+    let command = command_in c.args.opening in
+    record {
+      front = name_of command roles.App ∷ [];
+      rest = option_to_list (file_of command roles.Sessions) ++ option_to_list (file_of command roles.Events);
+      parts = files_in_order c.args.opening;
+      asked = rw c.app_file.ensures at c.in-Err.ensures.asked;
+      all = λ no. cc;
+    }
+
+pub returns-in-Err-read_sessions-clause-asks : goal.returns-in-Err-read_sessions-clause-asks
+returns-in-Err-read_sessions-clause-asks g c =
+    let F = g.F.Files in
+    let command = command_in c.args.opening in
+    let sessions : List (List ℕ) = option_to_list (file_of command roles.Sessions) in
+    record {
+      front = name_of command roles.App ∷ sessions;
+      rest = option_to_list (file_of command roles.Events);
+      parts = files_in_order c.args.opening;
+      asked = asked_then (F.seen c.args.files.now).asked (F.seen c.read_app.new.files).asked (F.seen c.read_sessions.new.files).asked (name_of command roles.App ∷ []) sessions
+          (rw c.app_file.ensures at c.in-Ok.ensures.asked) (rw c.sessions_file.ensures at c.in-Err-read_sessions.ensures.asked);
+      all = λ no. cc;
+    }
+
+pub returns-in-Err-read_events-clause-asks : goal.returns-in-Err-read_events-clause-asks
+returns-in-Err-read_events-clause-asks g c =
+    let F = g.F.Files in
+    let a = F.seen c.args.files.now in
+    let b = F.seen c.read_app.new.files in
+    let d = F.seen c.read_sessions.new.files in
+    let e = F.seen c.read_events.new.files in
+    asks_all a e (files_of (command_in c.args.opening)) _ (asked_in_order c.args.opening a.asked b.asked d.asked e.asked
+    (rw c.app_file.ensures at c.in-Ok.ensures.asked) (rw c.sessions_file.ensures at c.in-Ok-read_sessions.ensures.asked) (rw c.events_file.ensures at c.in-Err-read_events.ensures.asked))
+
+pub returns-clause-asks : goal.returns-clause-asks
+returns-clause-asks g c =
+    let F = g.F.Files in
+    let a = F.seen c.args.files.now in
+    let b = F.seen c.read_app.new.files in
+    let d = F.seen c.read_sessions.new.files in
+    let e = F.seen c.read_events.new.files in
+    asks_all a e (files_of (command_in c.args.opening)) _ (asked_in_order c.args.opening a.asked b.asked d.asked e.asked
+    (rw c.app_file.ensures at c.in-Ok.ensures.asked) (rw c.sessions_file.ensures at c.in-Ok-read_sessions.ensures.asked) (rw c.events_file.ensures at c.in-Ok-read_events.ensures.asked))
 
 pub returns-in-Err-clause-ends : goal.returns-in-Err-clause-ends
 returns-in-Err-clause-ends g c = λ out audit keeper.
