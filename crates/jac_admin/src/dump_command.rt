@@ -1,5 +1,5 @@
 //! The tables of a store, as they look where some labels are shown.
-ghost use Rattle.std.specs.Prelude.{◌≡◌, ◌≤◌, ◌+◌, ◌++◌, [], length, map, if◌then◌else◌, IfOk, OnOk, IsErrOf, IsTrue, codes, false};
+ghost use Rattle.std.specs.Prelude.{◌≡◌, ◌≤◌, ◌+◌, ◌++◌, [], length, map, if◌then◌else◌, IfOk, IsOk, OnOk, IsErrOf, IsTrue, codes, false};
 ghost use Rattle.jac_io.specs.Faults.{Rose};
 ghost use Rattle.jac_world.specs.World.{shown_by, holds};
 ghost use Rattle.jac_lang.specs.Mirror.{application_of, entities_of, entity_of};
@@ -9,7 +9,7 @@ ghost use Rattle.jac_keep.specs.KeeperSeen.{IsLeft};
 ghost use Rattle.jac_keep.specs.declared.stop.Stop.TheVariants.{Keeper as Failing};
 ghost use Rattle.jac_cli.specs.declared.words.Command.TheVariants as commands;
 ghost use Rattle.jac_serve_events.specs.Outside.{WentAimed, span, sinks};
-ghost use Rattle.jac_command_base.specs.Files.{sight};
+ghost use Rattle.jac_command_base.specs.Files.{AsksForFiles, files_of, sight};
 ghost use Rattle.jac_command_base.specs.ExitReason.{Closed};
 ghost use Rattle.jac_admin.specs.Dump.{cell_text, cells_text, record_line, table_text, tables_text, number_line, dump_text, EndsRead, EndsDump};
 
@@ -37,7 +37,9 @@ pub fn dump<F: Files, O: Sink, U: AuditSink, K: Vault>(
     vault: &mut K,
 ) -> Result<(), ExitReason>
     requires first { (K.seen vault.old).store.called ≡ false }
-    ensures { WentAimed (sinks (O.seen out.old) (O.seen out.new) (U.seen audit.old)
+    ensures asks { AsksForFiles (span (F.seen files.old) (F.seen files.new))
+        (files_of (commands.Dump command.now)) (IsOk result) }
+    ensures ends { WentAimed (sinks (O.seen out.old) (O.seen out.new) (U.seen audit.old)
         (U.seen audit.new))
         (EndsDump (sight (F.seen files.old) (F.seen files.new) (O.seen out.old) (O.seen out.new)
         (U.seen audit.old) (U.seen audit.new) (K.seen vault.old) (K.seen vault.new))

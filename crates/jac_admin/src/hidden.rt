@@ -1,5 +1,5 @@
 //! What a viewer isn't shown of a store, and which policy keeps it hidden.
-ghost use Rattle.std.specs.Prelude.{◌≡◌, ◌≤◌, ◌++◌, false, true, slice_get, IfOk, IsErrOf, IsTrue, OnOk, codes, decimal};
+ghost use Rattle.std.specs.Prelude.{◌≡◌, ◌≤◌, ◌++◌, false, true, slice_get, IfOk, IsOk, IsErrOf, IsTrue, OnOk, codes, decimal};
 ghost use Rattle.std.specs.List.{list_all};
 ghost use Rattle.jac_io.specs.Faults.{Rose};
 ghost use Rattle.jac_lang.specs.Mirror.{application_of, entities_of};
@@ -14,7 +14,7 @@ ghost use Rattle.jac_cli.specs.declared.words.Command.TheVariants as commands;
 ghost use Rattle.jac_serve_events.specs.Outside.{IsPut, WentAimed, span, sinks};
 ghost use Rattle.jac_why.specs.Context.{context_on};
 ghost use Rattle.jac_why.specs.Whys.{all_whys, is_standing};
-ghost use Rattle.jac_command_base.specs.Files.{sight};
+ghost use Rattle.jac_command_base.specs.Files.{AsksForFiles, files_of, sight};
 ghost use Rattle.jac_command_base.specs.ExitReason.{Closed};
 ghost use Rattle.jac_admin.specs.Explain.{asker_of, shown_line, reason_text, why_line, why_lines, whys_text, context_with, IsExplanation, EndsExplained, EndsExplain};
 ghost use Rattle.jac_plain.specs.Shown.{worlds_of};
@@ -47,7 +47,9 @@ pub fn explain<F: Files, O: Sink, U: AuditSink, K: Vault, M: Ledger>(
     evaluations: &mut Steps<M>,
 ) -> Result<(), ExitReason>
     requires first { (K.seen vault.old).store.called ≡ false }
-    ensures { WentAimed
+    ensures asks { AsksForFiles (span (F.seen files.old) (F.seen files.new))
+        (files_of (commands.Why command.now)) (IsOk result) }
+    ensures ends { WentAimed
         (sinks (O.seen out.old) (O.seen out.new) (U.seen audit.old) (U.seen audit.new))
         (EndsExplain
         (sight (F.seen files.old) (F.seen files.new) (O.seen out.old) (O.seen out.new)

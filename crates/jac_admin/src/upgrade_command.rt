@@ -1,5 +1,5 @@
 //! A store is brought from one application to the next.
-ghost use Rattle.std.specs.Prelude.{◌≡◌, ◌⊎◌, ◌++◌, ◌∷◌, [], None, Some, slice_get, IfOk, IsErrOf, IsTrue, OnErr, codes, decimal, false};
+ghost use Rattle.std.specs.Prelude.{◌≡◌, ◌⊎◌, ◌++◌, ◌∷◌, [], None, Some, slice_get, IfOk, IsOk, IsErrOf, IsTrue, OnErr, codes, decimal, false};
 ghost use Rattle.jac_io.specs.Faults.{Rose};
 ghost use Rattle.jac_lang.specs.Lookup.{fields_at};
 ghost use Rattle.jac_lang.specs.Mirror.{application_of, entities_of};
@@ -13,7 +13,7 @@ ghost use Rattle.jac_keep.specs.declared.stop.Stop.TheVariants.{Keeper as Failin
 ghost use Rattle.jac_cli.specs.declared.words.Command.TheVariants as commands;
 ghost use Rattle.jac_serve_events.specs.Outside.{IsPut, WentAimed, span, sinks};
 ghost use Rattle.jac_upgrade.specs.Extends.{models_lack};
-ghost use Rattle.jac_command_base.specs.Files.{sight};
+ghost use Rattle.jac_command_base.specs.Files.{AsksForFiles, files_of, sight};
 ghost use Rattle.jac_command_base.specs.ExitReason.{Closed};
 ghost use Rattle.jac_admin.specs.Upgrade.{lack_line, upgraded_line, IsUpgraded, EndsReshaping, EndsMoving, EndsUpgrading, EndsUpgrade};
 
@@ -43,7 +43,9 @@ pub fn upgrade<F: Files, O: Sink, U: AuditSink, K: Vault, L: Ledger>(
     splits: &mut Steps<L>,
 ) -> Result<(), ExitReason>
     requires first { (K.seen vault.old).store.called ≡ false }
-    ensures { WentAimed
+    ensures asks { AsksForFiles (span (F.seen files.old) (F.seen files.new))
+        (files_of (commands.Upgrade command.now)) (IsOk result) }
+    ensures ends { WentAimed
         (sinks (O.seen out.old) (O.seen out.new) (U.seen audit.old) (U.seen audit.new))
         (EndsUpgrade
         (sight (F.seen files.old) (F.seen files.new) (O.seen out.old) (O.seen out.new)

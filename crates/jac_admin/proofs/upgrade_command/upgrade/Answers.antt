@@ -1,17 +1,18 @@
-use Rattle.std.proofs.Common.{refl, inl, inr, [], arith}
+use Rattle.std.proofs.Common.{refl, inl, inr, [], ◌∷◌, arith}
 use Rattle.jac_lang.specs.Mirror.{application_of}
 use Rattle.jac_cli.specs.declared.role.Role.TheVariants as roles
 use Rattle.jac_cli.specs.declared.words.Command.TheVariants as commands
 use Rattle.jac_serve_events.specs.Outside.{span}
 use Rattle.jac_command_base.specs.Files.{sight}
 use Rattle.jac_serve_events.proofs.OutsideLemmas.{Took-none}
+use Rattle.jac_command_base.proofs.AskedLemmas.{asked_then, asks_all}
 use Rattle.jac_command_base.proofs.ExitReasonLemmas.{read_within, unread_ends, next_unopened_ends, idle_ends, still_idle}
 use Rattle.jac_command_base.proofs.StartupLemmas.{appless_ends, files_last, spelled_application, spelled_within, within_between}
 use Rattle.jac_admin.proofs.WellLemmas.{is_well_if_spelled}
 use Rattle.jac_admin.proofs.upgrade_command.upgrade.Goals as goal
 
-pub returns-in-Err : goal.returns-in-Err
-returns-in-Err g c =
+pub returns-in-Err-clause-ends : goal.returns-in-Err-clause-ends
+returns-in-Err-clause-ends g c =
     let F = g.F.Files in
     let command = commands.Upgrade c.args.command.now in
     let out = g.O.Sink.seen c.args.out.now in
@@ -25,8 +26,8 @@ returns-in-Err g c =
       still_idle audit k,
     ))
 
-pub returns-in-Err-read_file : goal.returns-in-Err-read_file
-returns-in-Err-read_file g c =
+pub returns-in-Err-read_file-clause-ends : goal.returns-in-Err-read_file-clause-ends
+returns-in-Err-read_file-clause-ends g c =
     let F = g.F.Files in
     let command = commands.Upgrade c.args.command.now in
     let app = application_of c.in-Ok.service in
@@ -54,8 +55,8 @@ returns-in-Err-read_file g c =
       still_idle audit k,
     ))
 
-pub returns-in-Err-open_next : goal.returns-in-Err-open_next
-returns-in-Err-open_next g c =
+pub returns-in-Err-open_next-clause-ends : goal.returns-in-Err-open_next-clause-ends
+returns-in-Err-open_next-clause-ends g c =
     let F = g.F.Files in
     let command = commands.Upgrade c.args.command.now in
     let app = application_of c.in-Ok.service in
@@ -89,8 +90,8 @@ upgrade_store-requires-clause-well g c =
     let spelled = c.in-Ok.ensures.spelled in
     is_well_if_spelled spelled.bytes (application_of c.in-Ok.service) spelled.spelled
 
-pub returns : goal.returns
-returns g c =
+pub returns-clause-ends : goal.returns-clause-ends
+returns-clause-ends g c =
     let F = g.F.Files in
     let O = g.O.Sink in
     let K = g.K.Keeper in
@@ -127,3 +128,35 @@ returns g c =
         ends = moved.holds;
       });
     }
+
+pub returns-in-Err-clause-asks : goal.returns-in-Err-clause-asks
+returns-in-Err-clause-asks g c =
+    let command = c.args.command.now in
+    record { front = command.app ∷ []; rest = command.next ∷ []; parts = refl; asked = c.in-Err.ensures.asked; all = λ no. cc }
+
+pub returns-in-Err-read_file-clause-asks : goal.returns-in-Err-read_file-clause-asks
+returns-in-Err-read_file-clause-asks g c =
+    let F = g.F.Files in
+    let command = c.args.command.now in
+    let a = F.seen c.args.files.now in
+    let b = F.seen c.read_app.new.files in
+    let d = F.seen c.read_file.new.files in
+    asks_all a d (command.app ∷ command.next ∷ []) _ (asked_then a.asked b.asked d.asked (command.app ∷ []) (command.next ∷ []) c.in-Ok.ensures.asked c.in-Err-read_file.ensures.asked)
+
+pub returns-in-Err-open_next-clause-asks : goal.returns-in-Err-open_next-clause-asks
+returns-in-Err-open_next-clause-asks g c =
+    let F = g.F.Files in
+    let command = c.args.command.now in
+    let a = F.seen c.args.files.now in
+    let b = F.seen c.read_app.new.files in
+    let d = F.seen c.read_file.new.files in
+    asks_all a d (command.app ∷ command.next ∷ []) _ (asked_then a.asked b.asked d.asked (command.app ∷ []) (command.next ∷ []) c.in-Ok.ensures.asked c.in-Ok-read_file.ensures.asked)
+
+pub returns-clause-asks : goal.returns-clause-asks
+returns-clause-asks g c =
+    let F = g.F.Files in
+    let command = c.args.command.now in
+    let a = F.seen c.args.files.now in
+    let b = F.seen c.read_app.new.files in
+    let d = F.seen c.read_file.new.files in
+    asks_all a d (command.app ∷ command.next ∷ []) _ (asked_then a.asked b.asked d.asked (command.app ∷ []) (command.next ∷ []) c.in-Ok.ensures.asked c.in-Ok-read_file.ensures.asked)
