@@ -19,7 +19,7 @@ use Rattle.jac_serve_events.specs.RunSeen.{RunCounts, IsStill}
 use Rattle.jac_serve_events.specs.Outside.{Span, span, AWriteFailed, WentAimed}
 use Rattle.jac_cli.specs.Words.{command_of}
 use Rattle.jac_cli.specs.Commands.{file_of, name_of}
-use Rattle.jac_command_base.specs.Files.{Sight, sinks_of, standing_at, IsRead, IsLong, HasApplication, HasNext, HasBadLine, IsOpened, IsReached, IsIdle}
+use Rattle.jac_command_base.specs.Files.{Sight, sinks_of, standing_at, AsksForFiles, files_named, IsRead, IsLong, HasApplication, HasNext, HasBadLine, IsOpened, IsReached, IsIdle}
 use Rattle.jac_serve_events.specs.Script.{script_of}
 use Rattle.jac_cli.specs.declared.words.DumpArgs.{DumpArgs}
 use Rattle.jac_cli.specs.declared.words.Replay.{Replay}
@@ -257,13 +257,15 @@ IsCompleted status = (status ≡ statuses.Done) ⊎ (status ≡ statuses.Memory)
 
 -- a run: what was put on both sinks is what the command's steps put, by the status, and what the
 -- keeper keeps at the end shows under every assignment the world that the ordinary interpreter
--- leaves; a door that tells told before, and its count didn't fall; the status has its cause; and
--- where nothing is missing and nothing fails, all is done, unless memory runs out. So many facets
--- were split, and policies evaluated, before and after
+-- leaves; a door that tells told before, and its count didn't fall; it asked for the files that its
+-- command names, in order, and for no other; the status has its cause; and where nothing is missing
+-- and nothing fails, all is done, unless memory runs out. So many facets were split, and policies
+-- evaluated, before and after
 pub record IsRun {L : Type 0} (line : L → LinkSeen) (seen : Sight) (door : Span (DoorSeen L))
     (counts : Span RunCounts) (words : List (List ℕ)) (status : Status) : Type 0 where
   pub ran : WentAimed (sinks_of seen) (Runs line seen door counts words status)
   pub lasts : DoorLasts door.before door.after
+  pub asks : AsksForFiles seen.files (files_named (command_of words)) (status ≡ statuses.Done)
   pub cause : ComesFor seen door words status
   pub replays : CanReplay seen words → IsCompleted status
   pub serves : CanServe seen door words → IsCompleted status

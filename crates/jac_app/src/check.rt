@@ -1,8 +1,8 @@
-ghost use Rattle.std.specs.Prelude.{◌≡◌, length, IfOk};
+ghost use Rattle.std.specs.Prelude.{◌≡◌, length, IfOk, IsOk};
 ghost use Rattle.jac_cli.specs.declared.words.Command.TheVariants as commands;
 ghost use Rattle.jac_lang.specs.Mirror.{application_of};
 ghost use Rattle.jac_serve_events.specs.Outside.{IsPut, WentAimed, span, sinks};
-ghost use Rattle.jac_command_base.specs.Files.{sight};
+ghost use Rattle.jac_command_base.specs.Files.{AsksForFiles, files_of, sight};
 ghost use Rattle.jac_app.specs.Check.{EndsCheck, checked_text};
 
 use itoa::Buffer;
@@ -24,7 +24,9 @@ pub fn check<F: Files, O: Sink, U: AuditSink, K: Keeper>(
     audit: &mut U,
     vault: &mut K,
 ) -> Result<(), ExitReason>
-    ensures { WentAimed (sinks (O.seen out.old) (O.seen out.new) (U.seen audit.old)
+    ensures asks { AsksForFiles (span (F.seen files.old) (F.seen files.new))
+        (files_of (commands.Check name.now)) (IsOk result) }
+    ensures ends { WentAimed (sinks (O.seen out.old) (O.seen out.new) (U.seen audit.old)
         (U.seen audit.new))
         (EndsCheck (sight (F.seen files.old) (F.seen files.new) (O.seen out.old) (O.seen out.new)
         (U.seen audit.old) (U.seen audit.new) (K.seen vault.old) (K.seen vault.new))

@@ -1,8 +1,9 @@
-ghost use Rattle.std.specs.Prelude.{◌≡◌, IsTrue, IfOk, IfSome, codes, false};
+ghost use Rattle.std.specs.Prelude.{◌≡◌, IsTrue, IfOk, IfSome, IsOk, codes, false};
 ghost use Rattle.jac_serve_events.specs.Outside.{WentAimed, span, sinks};
 ghost use Rattle.jac_serve_events.specs.RunSeen.{run_counts};
 ghost use Rattle.jac_cli.specs.Commands.{HasCount};
-ghost use Rattle.jac_command_base.specs.Files.{sight};
+ghost use Rattle.jac_cli.specs.Words.{command_of};
+ghost use Rattle.jac_command_base.specs.Files.{AsksForFiles, files_of, files_named, sight};
 ghost use Rattle.jac_command_base.specs.ExitReason.{Closed, Closes, Finishes};
 ghost use Rattle.jac_app.specs.Run.{Ends, Runs, IsRun, usage_line};
 ghost use Rattle.jac_io.specs.Linked.{DoorLasts};
@@ -74,6 +75,8 @@ fn take_steps<F: Files, O: Sink, U: AuditSink, K: Vault, D: Door, L: Ledger, M: 
 ) -> Result<(), ExitReason>
     requires count { HasCount command.now }
     requires first { (K.seen vault.old).store.called ≡ false }
+    ensures asks { AsksForFiles (span (F.seen files.old) (F.seen files.new))
+        (files_of command.now) (IsOk result) }
     ensures ends { WentAimed (sinks (O.seen out.old) (O.seen out.new) (U.seen audit.old)
         (U.seen audit.new))
         (Ends D.Line.seen (sight (F.seen files.old) (F.seen files.new) (O.seen out.old)
@@ -89,7 +92,7 @@ fn take_steps<F: Files, O: Sink, U: AuditSink, K: Vault, D: Door, L: Ledger, M: 
 {
     match command {
         Command::Check(app) => check(counts.alloc, app, files, out, audit, vault),
-        Command::Replay(files_of) => replay(files_of, files, out, audit, vault, counts),
+        Command::Replay(replaying) => replay(replaying, files, out, audit, vault, counts),
         Command::Serve(serving) => serve(serving, files, out, audit, vault, door, counts),
         Command::Demo(count) => demo(*count, out, audit, vault, counts),
         Command::Dump(dumping) => dump(counts.alloc, dumping, files, out, audit, vault),
@@ -125,6 +128,8 @@ fn run_words<F: Files, O: Sink, U: AuditSink, K: Vault, D: Door, L: Ledger, M: L
     counts: &mut Counts<'_, '_, L, M>,
 ) -> Status
     requires first { (K.seen vault.old).store.called ≡ false }
+    ensures asks { AsksForFiles (span (F.seen files.old) (F.seen files.new))
+        (files_named (command_of words.now)) (result ≡ Status.Done) }
     ensures ran { WentAimed (sinks (O.seen out.old) (O.seen out.new) (U.seen audit.old)
         (U.seen audit.new))
         (Runs D.Line.seen (sight (F.seen files.old) (F.seen files.new) (O.seen out.old)
@@ -210,8 +215,8 @@ pub fn run<F: Files, O: Sink, U: AuditSink, K: Vault, D: Door, L: Ledger, M: Led
     // Nothing was attached yet: the run does it.
     requires first { (K.seen vault.old).store.called ≡ false }
 
-    // Every byte that is put, every page and the state at the end, by the status; each status by
-    // its cause.
+    // Every byte that is put, every page and the state at the end, by the status; the files that
+    // are asked for; each status by its cause.
     ensures { IsRun D.Line.seen (sight (F.seen files.old) (F.seen files.new) (O.seen out.old)
         (O.seen out.new) (U.seen audit.old) (U.seen audit.new) (K.seen vault.old)
         (K.seen vault.new))

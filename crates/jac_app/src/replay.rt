@@ -1,4 +1,4 @@
-ghost use Rattle.std.specs.Prelude.{◌≡◌, ◌<◌, ◌^◌, length, IsTrue, false};
+ghost use Rattle.std.specs.Prelude.{◌≡◌, ◌<◌, ◌^◌, length, IsOk, IsTrue, false};
 ghost use Rattle.jac_lang.specs.Mirror.{application_of};
 ghost use Rattle.jac_engine.specs.Start.{IsStart};
 ghost use Rattle.jac_serve_events.specs.Dispatcher.{MayServe, KeepsDispatcher, kept};
@@ -9,7 +9,7 @@ ghost use Rattle.jac_serve_events.specs.Outside.{WentAimed, WentWith, span, sink
 ghost use Rattle.jac_cli.specs.declared.words.Command.TheVariants as commands;
 ghost use Rattle.jac_serve_events.specs.Script.{script_of};
 ghost use Rattle.jac_command_base.specs.ExitReason.{exit_reason_of};
-ghost use Rattle.jac_command_base.specs.Files.{sight};
+ghost use Rattle.jac_command_base.specs.Files.{AsksForFiles, files_of, sight};
 ghost use Rattle.jac_app.specs.Replay.{EndsServed, EndsServedLeaving, EndsReplay};
 
 use crate::counts::Counts;
@@ -118,6 +118,8 @@ pub fn replay<F: Files, O: Sink, U: AuditSink, K: Vault, L: Ledger, M: Ledger>(
     counts: &mut Counts<'_, '_, L, M>,
 ) -> Result<(), ExitReason>
     requires first { (K.seen vault.old).store.called ≡ false }
+    ensures asks { AsksForFiles (span (F.seen files.old) (F.seen files.new))
+        (files_of (commands.Replay command.now)) (IsOk result) }
     ensures ends { WentAimed (sinks (O.seen out.old) (O.seen out.new) (U.seen audit.old)
         (U.seen audit.new))
         (EndsReplay (sight (F.seen files.old) (F.seen files.new) (O.seen out.old) (O.seen out.new)

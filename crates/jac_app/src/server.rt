@@ -1,5 +1,5 @@
 //! `serve`: an application is served on a port, to one connection after another.
-ghost use Rattle.std.specs.Prelude.{◌≡◌, IsTrue, false};
+ghost use Rattle.std.specs.Prelude.{◌≡◌, IsOk, IsTrue, false};
 ghost use Rattle.jac_io.specs.Linked.{DoorLasts};
 ghost use Rattle.jac_lang.specs.Mirror.{application_of};
 ghost use Rattle.jac_engine.specs.Start.{IsStart};
@@ -7,8 +7,9 @@ ghost use Rattle.jac_serve_events.specs.Dispatcher.{MayServe, KeepsDispatcher, k
 ghost use Rattle.jac_dispatch.specs.Answered.{answer_spec, answer_spec_of};
 ghost use Rattle.jac_dispatch.specs.Seen.{dispatcher_seen};
 ghost use Rattle.jac_serve_events.specs.RunSeen.{run_counts, run_seen_of};
+ghost use Rattle.jac_cli.specs.declared.words.Command.TheVariants as commands;
 ghost use Rattle.jac_serve_events.specs.Outside.{IsPut, WentAimed, WentWith, span, sinks};
-ghost use Rattle.jac_command_base.specs.Files.{sight};
+ghost use Rattle.jac_command_base.specs.Files.{AsksForFiles, files_of, sight};
 ghost use Rattle.jac_app.specs.Server.{served_line, exit_reason_of_halt, EndsConnections, EndsDoor, EndsDoorLeaving, EndsServer};
 
 use crate::counts::Counts;
@@ -174,6 +175,8 @@ pub fn serve<F: Files, O: Sink, U: AuditSink, K: Vault, D: Door, L: Ledger, M: L
     counts: &mut Counts<'_, '_, L, M>,
 ) -> Result<(), ExitReason>
     requires first { (K.seen vault.old).store.called ≡ false }
+    ensures asks { AsksForFiles (span (F.seen files.old) (F.seen files.new))
+        (files_of (commands.Serve serving.now)) (IsOk result) }
     ensures ends { WentAimed (sinks (O.seen out.old) (O.seen out.new) (U.seen audit.old)
         (U.seen audit.new))
         (EndsServer D.Line.seen (sight (F.seen files.old) (F.seen files.new) (O.seen out.old)

@@ -22,6 +22,7 @@ returns-clause-run g c =
     record {
       ran = ran;
       lasts = c.run_words.ensures.lasts;
+      asks = c.run_words.ensures.asks;
       cause = comes_for line seen door counts c.args.words.now c.run_words.result ran.out ran.audit ran.holds;
       replays = λ can. is_served line seen door counts c.args.words.now can c.run_words.result ran.out ran.audit ran.holds;
       serves = λ can. is_listened line seen door counts c.args.words.now can c.run_words.result ran.out ran.audit ran.holds;
