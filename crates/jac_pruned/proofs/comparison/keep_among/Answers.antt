@@ -1,4 +1,4 @@
-use Rattle.std.proofs.Common.{rules, ◌∙◌, ◌+◌, ap, sym, if◌then◌else◌, [], ◌∷◌, ◌++◌, drop, append-nil}
+use Rattle.std.proofs.Common.{◌∙◌, ◌+◌, ap, sym, if◌then◌else◌, [], ◌∷◌, ◌++◌, drop, append-nil}
 use Rattle.std.proofs.lemmas.List.{drop_all}
 use Rattle.jac_rows.specs.Project.{rows_at}
 use Rattle.jac_pruned.specs.Comparisons.{comparison_among, ids_compared}
