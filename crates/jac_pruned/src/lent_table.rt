@@ -20,7 +20,7 @@ use std::alloc::Global;
 // For fewer records, or of so many rows one, each is sought by itself.
 const FEW: usize = 8;
 
-const SPARSE: usize = 16;
+const SPARSE: usize = 4;
 
 /// Whether there are enough ids to read their table as a whole.
 pub(crate) fn are_many(ids: &[Id]) -> bool {
