@@ -2,3 +2,4 @@ pub mod Attached
 pub mod Found
 pub mod Left
 pub mod Telling
+pub mod Standing

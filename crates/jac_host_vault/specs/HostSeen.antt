@@ -84,6 +84,10 @@ abbrev pub LeavesFile : {V : Type 0} → (V → KeeperSeen) → (Option (List �
 LeavesFile {V} seen Leaves h = IfSome h.file (λ (f : ReopenSeen V). IfSome f.first
     (IsLeftUnattached seen Leaves))
 
+-- so the rows of the file stand that was attached
+abbrev pub KeepsRows : {V : Type 0} → (V → Type 0) → HostSeen V → Type 0
+KeepsRows {V} Stands h = IfSome h.file (λ (f : ReopenSeen V). IfSome f.first Stands)
+
 -- between two calls: a file stays what is called, and only a fault gives up the keeper that
 -- attached it, which goes on until then; memory stays, and what it is alone of
 pub record HostGoesOn {V : Type 0} (seen : V → KeeperSeen) (Goes : V → V → Type 0)

@@ -3,3 +3,4 @@ pub mod GoesOn
 pub mod Content
 pub mod Left
 pub mod Telling
+pub mod Standing

@@ -4,7 +4,7 @@ ghost use Rattle.jac_rows.specs.Good.{ModelShape};
 ghost use Rattle.jac_keep.specs.Attaching.{Attaches};
 ghost use Rattle.jac_keep.specs.Schema.{IsSchema};
 ghost use Rattle.jac_keep.specs.declared.vault.AttachFault.TheVariants.{Other};
-ghost use Rattle.jac_sqlkeep.specs.Kept.{seen_kept, HasSchema, IsLeftAs, LearnsSchema};
+ghost use Rattle.jac_sqlkeep.specs.Kept.{seen_kept, HasSchema, HasStandingRows, IsLeftAs, LearnsSchema};
 ghost use Rattle.jac_host_vault.specs.Content.{IsFileOf, IsFound};
 
 use crate::FileOpens;
@@ -71,6 +71,13 @@ impl<O: FileOpens> FileKeeper<O> {
         ensures same_faults { self.new.faults ≡ self.old.faults }
     {
         self.keeper.doubt();
+    }
+
+    /// A law: as long as it tells, the rows of its file are well formed and committed.
+    pub fn rows_stand(&self)
+        ensures { HasStandingRows self.now }
+    {
+        self.keeper.rows_stand();
     }
 
     /// Says on standard error why the file of this name wasn't attached.

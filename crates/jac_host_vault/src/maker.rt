@@ -31,6 +31,7 @@ impl<O: FileOpens> FileMaker<O> {
 }
 
 impl<O: FileOpens> VaultMaker for FileMaker<O> {
+    ghost use Rattle.jac_sqlkeep.specs.Kept.{HasStandingRows};
     ghost use Rattle.jac_host_vault.specs.Content.{IsFileOf};
     ghost use Rattle.jac_host_vault.specs.Left.{IsFileLeft};
 
@@ -41,6 +42,12 @@ impl<O: FileOpens> VaultMaker for FileMaker<O> {
     ghost begins = { IsFileOf };
 
     ghost leaves = { λ name k. IsFileLeft O.Store.Store (O.Opener.gives name) k };
+
+    ghost stands = { HasStandingRows };
+
+    fn rows_stand(vault: &CachedKeeper<FileKeeper<O>>) {
+        vault.keeper().rows_stand();
+    }
 
     /// Reports on standard error why a file is refused.
     fn attach(

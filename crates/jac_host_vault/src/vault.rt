@@ -4,7 +4,7 @@ ghost use Rattle.jac_rows.specs.Good.{ModelShape};
 ghost use Rattle.jac_keep.specs.Attaching.{Attaches};
 ghost use Rattle.jac_keep.specs.KeeperState.{IsStored, unattached_store};
 ghost use Rattle.jac_keep.specs.Schema.{IsSchema};
-ghost use Rattle.jac_host_vault.specs.HostSeen.{IsStorePlaced, IsStoreLeft, LeavesFile};
+ghost use Rattle.jac_host_vault.specs.HostSeen.{IsStorePlaced, IsStoreLeft, LeavesFile, KeepsRows};
 
 use jac_io::Calls;
 use jac_keep::{AttachFault, Change, Keeper, MemoryKeeper, Place, Stop, Vault};
@@ -110,6 +110,15 @@ impl<M: VaultMaker> HostVault<M> {
     {
         if let Some(file) = &self.file {
             file.stand();
+        }
+    }
+
+    /// A law: the rows of its file stand as its maker says.
+    pub fn rows_stand(&self)
+        ensures { KeepsRows M.stands self.now }
+    {
+        if let Some(file) = &self.file {
+            file.rows_stand();
         }
     }
 

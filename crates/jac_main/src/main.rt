@@ -10,6 +10,7 @@ ghost use Rattle.jac_command_base.specs.Files.{sight};
 ghost use Rattle.jac_sqlkeep.specs.Kept.{seen_kept};
 ghost use Rattle.jac_host_vault.specs.HostSeen.{LeavesFile};
 ghost use Rattle.jac_host_vault.specs.Left.{IsFileLeft};
+ghost use Rattle.jac_host_vault.specs.Standing.{IsStoreStanding};
 ghost use Rattle.jac_main.specs.Promise.{KeepsPromise, top_run};
 ghost use Rattle.jac_main.specs.Start.{BeginsSupposed, has_file};
 
@@ -93,6 +94,7 @@ struct Host<'h, O: Outside> {
 // are as it says, each clause holds of the bytes that writes took. `F` opens the store's file, and
 // supposes what it holds: where its bytes are as it says, each clause on what stood there holds of
 // the store that they stand for. A file that isn't attached at the end is left as it was opened.
+// The rows of one that tells then are well formed and committed.
 fn run_host<O: Outside, F: FileOpens, L: Ledger, M: Ledger>(
     alloc: Global,
     words: &[Txt],
@@ -121,6 +123,7 @@ fn run_host<O: Outside, F: FileOpens, L: Ledger, M: Ledger>(
         (span splits.old splits.new) (span evaluations.old evaluations.new) result) }
     ensures left { LeavesFile seen_kept (λ name. IsFileLeft F.Store.Store (F.Opener.gives name))
         vault.new }
+    ensures stands { IsStoreStanding F.holds vault.new }
 {
     let status = run(
         alloc,
@@ -134,6 +137,7 @@ fn run_host<O: Outside, F: FileOpens, L: Ledger, M: Ledger>(
         evaluations,
     );
     vault.stand();
+    vault.rows_stand();
     status
 }
 

@@ -96,6 +96,15 @@ impl<M: VaultMaker> ReopeningKeeper<M> {
         let _ = &self.first;
     }
 
+    /// A law: the rows of the vault that was attached first stand as its maker says.
+    pub fn rows_stand(&self)
+        ensures { IfSome self.now.first M.stands }
+    {
+        if let Some(first) = &self.first {
+            M::rows_stand(first);
+        }
+    }
+
     // After a fault: where the store answers nothing more, it is closed, and opened again by the
     // next call.
     #[tactic(auto, using(crate::proofs::Going::first_goes, crate::proofs::Going::closed_goes))]

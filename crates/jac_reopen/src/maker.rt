@@ -25,6 +25,13 @@ pub trait VaultMaker: Drop {
     /// is left, beside what stood there, and why it was refused.
     ghost leaves: { Option (List ℕ) → Self.Vault → Type 0 };
 
+    /// What is known of a vault at any time: how its rows stand, as long as it tells.
+    ghost stands: { Self.Vault → Type 0 };
+
+    /// A law: so it is of each vault.
+    fn rows_stand(vault: &Self::Vault)
+        ensures { stands vault.now };
+
     /// A vault over the store of this name, attached, or why it isn't.
     fn attach(
         &mut self,

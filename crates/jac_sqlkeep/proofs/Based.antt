@@ -30,7 +30,7 @@ use Rattle.sqlite.specs.Effect.{Database}
 use Rattle.jac_sql_spec.specs.Lasting.{ConnectionLasts, IsSeenUnmoved}
 use Rattle.jac_sql_spec.specs.Stands.{Stands}
 use Rattle.jac_sql_spec.specs.Tables.{no_tables, two_tables}
-use Rattle.jac_sqlkeep.specs.Based.{Based, based_keeper, DatabaseGoesOn, HasTables, AreCommitted, Stood, IsStanding, Begins, IsWhole, ReadsBased, AppliesBased, ReshapesBased}
+use Rattle.jac_sqlkeep.specs.Based.{Based, based_keeper, DatabaseGoesOn, HasTables, AreCommitted, Stood, IsStanding, TellsStanding, Begins, IsWhole, ReadsBased, AppliesBased, ReshapesBased}
 
 never : {A : Type 0} → IsTrue false → A
 never t = absurd (true≢false (sym t))
@@ -205,8 +205,13 @@ stood_here g kinds h b is settled =
 
 -- ---- from call to call
 
+-- what is told stands, and is committed
+pub tells_standing : {S : Type 0} (g : Ghosts S) (kinds : List (List Kind)) (h : Held S) (known : Bool) → (IsTrue known → IsAllCommitted (length kinds) (state g h)) → TellsStanding (based_keeper g kinds known h)
+tells_standing g kinds h false kept = λ told. never told
+tells_standing g kinds h true kept = standing_of g kinds h h (schema_in (state g h).now) (kept refl) (λ opened. refl)
+
 module _ {S : Type 0} (g : Ghosts S) (kinds more : List (List Kind)) (old new : Held S) where
-  pub goes_by : (known : Bool) → ConnectionLasts (state g old) (state g new) → (IsTrue (state g new).is_open → IsTrue (state g old).is_open)
+  pub goes_by : (known : Bool) → ConnectionLasts (state g old) (state g new) → (IsTrue (state g new).is_open → IsTrue (state g old).is_open) → (IsTrue known → IsAllCommitted (length more) (state g new))
       → DatabaseGoesOn g (based_keeper g kinds known old) (based_keeper g more known new)
-  goes_by false lasts opens = record { tells = λ t. never t; opens = opens; clean = lasts.clean; counts = lasts.counts; closes = lasts.closes; sure = λ law opened. law new.store }
-  goes_by true lasts opens = record { tells = λ told opened. opened; opens = opens; clean = lasts.clean; counts = lasts.counts; closes = lasts.closes; sure = λ law opened. law new.store }
+  goes_by false lasts opens kept = record { tells = λ t. never t; opens = opens; clean = lasts.clean; counts = lasts.counts; closes = lasts.closes; sure = λ law opened. law new.store; standing = λ was. tells_standing g more new false kept }
+  goes_by true lasts opens kept = record { tells = λ told opened. opened; opens = opens; clean = lasts.clean; counts = lasts.counts; closes = lasts.closes; sure = λ law opened. law new.store; standing = λ was. tells_standing g more new true kept }

@@ -56,17 +56,6 @@ based_keeper g kinds known h = record {
 abbrev pub NeverShut : {S : Type 0} → Ghosts S → Type 0
 NeverShut {S} g = (s : S) → IsTrue (g.view s).is_open
 
--- between two calls: one that told tells while its connection is open, which is never opened again,
--- no fault is forgotten, and only a fault of the disk shuts the connection
-pub record DatabaseGoesOn {S : Type 0} (g : Ghosts S) (old new : Based) : Type 0 where
-  pub tells : IsTrue old.tells → IsTrue new.is_open → IsTrue new.tells
-  pub opens : IsTrue new.is_open → IsTrue old.is_open
-  pub clean : doubt old.is_clean ≤ doubt new.is_clean
-  pub counts : old.faults ≤ new.faults
-  pub closes : doubt new.is_clean ≡ 0 → IsTrue old.is_open
-      → IsTrue new.is_open ⊎ Rose old.faults new.faults
-  pub sure : NeverShut g → IsTrue old.is_open → IsTrue new.is_open
-
 -- the rows of both tables are those that stood there
 pub record HasTables (db : Tables) (b : Based) : Type 0 where
   pub meta : b.meta ≡ db.trees 0
@@ -94,6 +83,23 @@ pub record IsStanding (schema : List ℕ) (b : Based) : Type 0 where
   pub has : HasTables database b
   pub stands : Stands schema database b.state
   pub settled : AreCommitted b
+
+-- so they are, with the schema text that it has, as long as it tells
+abbrev pub TellsStanding : Based → Type 0
+TellsStanding b = IsTrue b.tells → IsStanding b.schema b
+
+-- between two calls: one that told tells while its connection is open, which is never opened again,
+-- no fault is forgotten, only a fault of the disk shuts the connection, and its rows stay well
+-- formed and committed
+pub record DatabaseGoesOn {S : Type 0} (g : Ghosts S) (old new : Based) : Type 0 where
+  pub tells : IsTrue old.tells → IsTrue new.is_open → IsTrue new.tells
+  pub opens : IsTrue new.is_open → IsTrue old.is_open
+  pub clean : doubt old.is_clean ≤ doubt new.is_clean
+  pub counts : old.faults ≤ new.faults
+  pub closes : doubt new.is_clean ≡ 0 → IsTrue old.is_open
+      → IsTrue new.is_open ⊎ Rose old.faults new.faults
+  pub sure : NeverShut g → IsTrue old.is_open → IsTrue new.is_open
+  pub standing : TellsStanding old → TellsStanding new
 
 -- A store that may be called from now on: it has the schema, and tells its state, which fits the
 -- schema, while its connection is open. Its rows are well formed and committed. Where there was no

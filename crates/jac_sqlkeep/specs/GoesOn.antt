@@ -15,6 +15,7 @@ module _ {S : Type 0} (g : Ghosts S) where
     counts = omega arith;
     closes = λ clean opened. inl opened;
     sure = λ law opened. opened;
+    standing = λ is. is;
   }
 
   goes_joined : (a b c : Based) → DatabaseGoesOn g a b → DatabaseGoesOn g b c
@@ -32,6 +33,7 @@ module _ {S : Type 0} (g : Ghosts S) where
       | inr rose ↦ inr (omega (arith, rose, two.counts))
     ];
     sure = λ law opened. two.sure law (one.sure law opened);
+    standing = λ is. two.standing (one.standing is);
   }
 
   pub keeper_same : (o : Option Based) → KeeperGoesOn g o o

@@ -1,5 +1,5 @@
 -- what contracts see of a keeper over SQLite
-use Rattle.std.specs.Prelude.{◌≡◌, ◌⊎◌, ⊤, ℕ, Bool, false, List, [], Option, Some, None, Result, Ok, Err, IsTrue, IsSomeAnd}
+use Rattle.std.specs.Prelude.{◌≡◌, ◌⊎◌, ⊤, ℕ, Bool, false, List, [], Option, Some, None, IfSome, Result, Ok, Err, IsTrue, IsSomeAnd}
 use Rattle.sqlite_trees.specs.declared.store.Store.{Ghosts}
 use Rattle.sqlite.specs.Held.{Held}
 use Rattle.jac_value.specs.declared.value.Kind.{Kind}
@@ -9,7 +9,7 @@ use Rattle.jac_keep.specs.KeeperSeen.{KeeperSeen, Store}
 use Rattle.jac_keep.specs.Schema.{IsSchema, shapes_by}
 use Rattle.jac_keep.specs.declared.vault.AttachFault.{AttachFault}
 use Rattle.jac_keep.specs.declared.vault.AttachFault.TheVariants.{Failed, Memory, Other}
-use Rattle.jac_sqlkeep.specs.Based.{Based, DatabaseGoesOn, Begins, Stood}
+use Rattle.jac_sqlkeep.specs.Based.{Based, DatabaseGoesOn, Begins, Stood, TellsStanding}
 
 -- its store, how often it failed, and how often that was an opening, its database, once it has one,
 -- and the one that was refused
@@ -70,6 +70,10 @@ HasSchema schema b = IsTrue b.is_open → b.schema ≡ schema
 -- one that tells has this schema text
 abbrev pub TellsSchema : List ℕ → Based → Type 0
 TellsSchema schema b = IsTrue b.tells → b.schema ≡ schema
+
+-- as long as its database tells, the rows of that are well formed and committed
+abbrev pub HasStandingRows : Kept → Type 0
+HasStandingRows k = IfSome k.database TellsStanding
 
 -- a store that may be called, over what the opener gave
 pub record BeginsGiven {S : Type 0} (g : Ghosts S) (Gives : Held S → Type 0) (schema : List ℕ)

@@ -12,7 +12,7 @@ ghost use Rattle.jac_keep.specs.Reshaping.{widened_state};
 ghost use Rattle.jac_keep.specs.Schema.{IsFit, shapes_by};
 ghost use Rattle.jac_sql_spec.specs.Lasting.{ConnectionLasts, IsSeenUnmoved};
 ghost use Rattle.jac_sql_spec.specs.Tables.{no_tables, two_tables};
-ghost use Rattle.jac_sqlkeep.specs.Based.{DatabaseGoesOn, ReadsBased, AppliesBased, ReshapesBased, OpensBased, ReadsWhole, based_keeper};
+ghost use Rattle.jac_sqlkeep.specs.Based.{DatabaseGoesOn, ReadsBased, AppliesBased, ReshapesBased, OpensBased, ReadsWhole, TellsStanding, based_keeper};
 
 use crate::cause::{CORRUPT, NO_MEMORY, Unfit};
 use crate::form::has_form;
@@ -183,6 +183,13 @@ impl<S: Alter> Database<S> {
         ensures { self.new ≡ record self.old { tells = false } }
     {
         self.known = false;
+    }
+
+    /// A law: as long as it tells, its rows are well formed and committed.
+    pub fn rows_stand(&self)
+        ensures { TellsStanding self.now }
+    {
+        let _ = &self.conn;
     }
 
     pub fn number(&mut self) -> Result<u64, Error>

@@ -84,7 +84,7 @@ impl<O: Opener> SqlKeeper<O> {
 }
 
 impl<O: Opener> SqlKeeper<O> {
-    ghost use Rattle.jac_sqlkeep.specs.Kept.{seen_kept};
+    ghost use Rattle.jac_sqlkeep.specs.Kept.{seen_kept, HasStandingRows};
 
     pub fn is_attached(&self) -> bool
         ensures { result ≡ self.now.store.attached }
@@ -102,6 +102,15 @@ impl<O: Opener> SqlKeeper<O> {
     /// Why the last statement was refused, if one was.
     pub fn error(&self) -> Option<Error> {
         self.error
+    }
+
+    /// A law: as long as its database tells, the rows of that are well formed and committed.
+    pub fn rows_stand(&self)
+        ensures { HasStandingRows self.now }
+    {
+        if let Some(database) = &self.database {
+            database.rows_stand();
+        }
     }
 
     /// It tells nothing from now on.

@@ -11,4 +11,5 @@ returns-clause-reads g c =
     (reads_based g.S.Store c.self.inside.shape.kinds c.self.inside.conn c.read_number.new.conn _ c.read_number.result c.self.inside.known (λ known. c.read_number.ensures.told _ (c.self.invariant.1 known)))
 
 pub returns-clause-goes : goal.returns-clause-goes
-returns-clause-goes g c = rw (← c.self.view_is) (goes_by g.S.Store c.self.inside.shape.kinds c.self.inside.shape.kinds c.self.inside.conn c.read_number.new.conn c.self.inside.known c.read_number.ensures.lasts c.read_number.ensures.opens)
+returns-clause-goes g c = rw (← c.self.view_is) (goes_by g.S.Store c.self.inside.shape.kinds c.self.inside.shape.kinds c.self.inside.conn c.read_number.new.conn c.self.inside.known c.read_number.ensures.lasts c.read_number.ensures.opens
+    (λ known. (c.read_number.ensures.told _ (c.self.invariant.1 known)).kept))

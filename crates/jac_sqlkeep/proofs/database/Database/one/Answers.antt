@@ -10,7 +10,8 @@ returns-in-None-clause-reads g c =
     (no_alternatives g.S.Store c.self.inside.shape.kinds c.self.inside.conn c.args.id c.self.inside.known c.self.invariant.1 (ap (slice_get c.self.inside.shape.kinds) (sym c.id_model.ensures) ∙ sym c.in-None.ensures))
 
 pub returns-in-None-clause-goes : goal.returns-in-None-clause-goes
-returns-in-None-clause-goes g c = rw (← c.self.view_is) (goes_by g.S.Store c.self.inside.shape.kinds c.self.inside.shape.kinds c.self.inside.conn c.self.inside.conn c.self.inside.known (lasts_same (state g.S.Store c.self.inside.conn)) (λ opened. opened))
+returns-in-None-clause-goes g c = rw (← c.self.view_is) (goes_by g.S.Store c.self.inside.shape.kinds c.self.inside.shape.kinds c.self.inside.conn c.self.inside.conn c.self.inside.known (lasts_same (state g.S.Store c.self.inside.conn)) (λ opened. opened) c.self.invariant.1)
 
 pub returns-in-Some-clause-goes : goal.returns-in-Some-clause-goes
-returns-in-Some-clause-goes g c = rw (← c.self.view_is) (goes_by g.S.Store c.self.inside.shape.kinds c.self.inside.shape.kinds c.self.inside.conn c.read_record.new.conn c.self.inside.known c.read_record.ensures.lasts c.read_record.ensures.opens)
+returns-in-Some-clause-goes g c = rw (← c.self.view_is) (goes_by g.S.Store c.self.inside.shape.kinds c.self.inside.shape.kinds c.self.inside.conn c.read_record.new.conn c.self.inside.known c.read_record.ensures.lasts c.read_record.ensures.opens
+    (λ known. (c.read_record.ensures.told _ (c.self.invariant.1 known)).kept))

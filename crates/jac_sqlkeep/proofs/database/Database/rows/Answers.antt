@@ -8,7 +8,8 @@ pub returns-in-None-clause-reads : goal.returns-in-None-clause-reads
 returns-in-None-clause-reads g c = rw (← c.self.view_is, c.empty.ensures) (no_rows g.S.Store c.self.inside.shape.kinds c.self.inside.conn c.args.model c.self.inside.known c.self.invariant.1 (sym c.in-None.ensures))
 
 pub returns-in-None-clause-goes : goal.returns-in-None-clause-goes
-returns-in-None-clause-goes g c = rw (← c.self.view_is) (goes_by g.S.Store c.self.inside.shape.kinds c.self.inside.shape.kinds c.self.inside.conn c.self.inside.conn c.self.inside.known (lasts_same (state g.S.Store c.self.inside.conn)) (λ opened. opened))
+returns-in-None-clause-goes g c = rw (← c.self.view_is) (goes_by g.S.Store c.self.inside.shape.kinds c.self.inside.shape.kinds c.self.inside.conn c.self.inside.conn c.self.inside.known (lasts_same (state g.S.Store c.self.inside.conn)) (λ opened. opened) c.self.invariant.1)
 
 pub returns-in-Some-clause-goes : goal.returns-in-Some-clause-goes
-returns-in-Some-clause-goes g c = rw (← c.self.view_is) (goes_by g.S.Store c.self.inside.shape.kinds c.self.inside.shape.kinds c.self.inside.conn c.read_model.new.conn c.self.inside.known c.read_model.ensures.lasts c.read_model.ensures.opens)
+returns-in-Some-clause-goes g c = rw (← c.self.view_is) (goes_by g.S.Store c.self.inside.shape.kinds c.self.inside.shape.kinds c.self.inside.conn c.read_model.new.conn c.self.inside.known c.read_model.ensures.lasts c.read_model.ensures.opens
+    (λ known. (c.read_model.ensures.told _ (c.self.invariant.1 known)).kept))
