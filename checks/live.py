@@ -128,7 +128,7 @@ def refused(folder):
     yield expect('a file that is there', look(folder, 'export', 'app', '-', 'out.db'),
                  (1, '', 'live: out.db is there already\n'))
     status, out, told = look(folder, 'export', 'app', '-', 'none.out', store='none.db')
-    yield expect('no store', (status, out, told[:33]), (1, '', "live: none.db can't be copied: Fi"))
+    yield expect('no store', (status, out, told), (1, '', "live: none.db can't be copied: none.db isn't there\n"))
     for word in 'Bob', str(2 ** 128):
         status, out, told = look(folder, 'as', 'app', word)
         yield expect('no viewer', (status, out, 'VIEWER is the number of a record, or - for nobody' in told), (2, '', True))
