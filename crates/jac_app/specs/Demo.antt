@@ -1,4 +1,4 @@
--- What `demo N` does: generated requests are answered in silence, and counted.
+-- What `demo N` does: it answers generated requests without output, and counts them.
 use Rattle.std.specs.Prelude.{◌≡◌, ◌⊎◌, ◌≤◌, ◌+◌, ◌*◌, ◌^◌, ℕ, Bool, true, false, if◌then◌else◌, Result, Ok, Err, Option, Some, None, List, [], ◌∷◌, ◌++◌, length, codes, decimal}
 use Rattle.std.specs.Str.{bytes_eq}
 use Rattle.jac_demo.specs.Calendar.{calendar_text}

@@ -1,4 +1,4 @@
--- What a command that answers requests sees of its store, counts and caches.
+-- What contracts see of the store, counts and caches of a command that answers requests.
 use Rattle.std.specs.Prelude.{◌≡◌, ℕ, List}
 use Rattle.jac_command_base.specs.Attached.{IsUnattached}
 use Rattle.jac_command_base.specs.Files.{Sight, IsIdle}

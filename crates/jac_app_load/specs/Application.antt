@@ -1,4 +1,4 @@
--- The applications that are served.
+-- When bytes are the text of an application, and when they are refused.
 use Rattle.std.specs.Prelude.{◌≡◌, ℕ, List, [], Option, Some, None, Result, Ok, Err}
 use Rattle.jac_lang.specs.Syntax.{Application}
 use Rattle.jac_tree.specs.Grammar.{Accepted}

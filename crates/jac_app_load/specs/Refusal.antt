@@ -1,4 +1,4 @@
--- Why bytes are no application, and the line that says so.
+-- Why bytes are refused as an application, and the message.
 use Rattle.std.specs.Prelude.{◌≡◌, ℕ, ◌++◌, ◌∷◌, [], ◌⊎◌, if◌then◌else◌, List, Result, Ok, Err, codes, decimal, IsUtf8}
 use Rattle.std.specs.Str.{IsValidUpTo}
 use Rattle.jac_lang.specs.Syntax.{Application}

@@ -1,4 +1,4 @@
--- The first fault of an application, with its place.
+-- The first fault of an application, and its place.
 use Rattle.std.specs.Prelude.{ℕ, ◌+◌, Bool, true, false, ◌&&◌, ◌||◌, List, [], ◌∷◌, ◌++◌, Option, Some, None, codes}
 use Rattle.jac_value.specs.declared.value.Kind.{Kind}
 use Rattle.jac_value.specs.Paths.{segments, names_in}

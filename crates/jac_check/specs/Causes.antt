@@ -1,4 +1,4 @@
--- How a fault is told: with its place, and with the names of the models that its kinds refer to.
+-- What the message of a fault says: its place, and the names of models.
 use Rattle.std.specs.Prelude.{ℕ, List, [], slice_get, Option, Some, None, option_map}
 use Rattle.jac_value.specs.declared.value.Kind.{Kind}
 use Rattle.jac_value.specs.declared.value.Kind.TheVariants as kinds

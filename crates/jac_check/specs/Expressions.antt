@@ -1,4 +1,5 @@
--- The kind of an expression, or its first fault: in each form the names, the operands from left to
+-- The kind of an expression, or its first fault. Names are checked first, then operands from left
+-- to right, then their kinds.
 -- right, their kinds from left to right.
 use Rattle.std.specs.Prelude.{ℕ, Bool, not, ◌&&◌, List, Option, None, codes}
 use Rattle.jac_value.specs.declared.value.Kind.{Kind}

@@ -1,4 +1,4 @@
--- The faults of names: of models and fields, of binders and orders, of the words of an expression.
+-- Faults in names: of models, fields, binders and orders, and of the words of an expression.
 use Rattle.std.specs.Prelude.{ℕ, List, [], ◌∷◌, Option, Some, None, if◌then◌else◌, codes}
 use Rattle.jac_value.specs.declared.value.Kind.{Kind}
 use Rattle.jac_lang.specs.declared.field_kinds.Field.{Field}

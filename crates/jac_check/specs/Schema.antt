@@ -1,4 +1,4 @@
--- The schema of an application: its models, their fields, and which fields its groups guard, as a
+-- The schema of an application, as a tree: its models, their fields, and which groups guard them.
 -- tree.
 use Rattle.std.specs.Prelude.{ℕ, Bool, true, false, if◌then◌else◌, List, [], ◌∷◌, codes}
 use Rattle.jac_lang.specs.declared.field_kinds.Field.{Field}

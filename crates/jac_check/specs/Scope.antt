@@ -1,4 +1,5 @@
--- Where expressions and statements stand: the names that are bound there, and what they may use.
+-- What may be used where an expression or a statement appears: the names that are bound there, and
+-- more.
 use Rattle.std.specs.Prelude.{ℕ, Bool, true, false, if◌then◌else◌, List, [], ◌∷◌, ◌++◌, length, Option, Some, None}
 use Rattle.jac_value.specs.declared.value.Kind.{Kind}
 use Rattle.jac_lang.specs.declared.field_kinds.Field.{Field}

@@ -1,4 +1,5 @@
--- The first fault of a statement: what may not stand here, the names, the operands, their kinds,
+-- The first fault of a statement. Statements that aren't allowed here come first, then names, then
+-- operands, then their kinds, and the statements inside come last.
 -- and last the statements inside.
 use Rattle.std.specs.Prelude.{ℕ, Bool, true, false, List, [], ◌∷◌, Option, Some, None, codes}
 use Rattle.jac_value.specs.declared.value.Kind.{Kind}

@@ -1,4 +1,4 @@
--- What is said of a part: its kind, or why it is not well.
+-- The result of checking a part: its kind, or its fault.
 use Rattle.std.specs.Prelude.{ℕ, Bool, true, false, List, Option, Some, None}
 use Rattle.jac_value.specs.declared.value.Kind.{Kind}
 use Rattle.jac_value.specs.declared.value.Kind.TheVariants as kinds

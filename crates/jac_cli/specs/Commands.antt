@@ -1,4 +1,4 @@
--- The files that commands name, and what else of a command its run asks.
+-- The files that each command names, and its other arguments.
 use Rattle.std.specs.Prelude.{◌≤◌, ⊤, ℕ, Bool, false, Option, Some, None, List, [], codes}
 use Rattle.jac_cli.specs.declared.words.Command.{Command}
 use Rattle.jac_cli.specs.declared.words.Command.TheVariants as commands

@@ -1,4 +1,4 @@
--- How attaching a store for an application ends.
+-- How an attempt to attach a store for an application ends.
 use Rattle.std.specs.Prelude.{◌≡◌, ℕ, IsTrue, Result, Ok, Err, Option, Some, List, []}
 use Rattle.jac_io.specs.Faults.{Rose}
 use Rattle.jac_lang.specs.Syntax.{Application}

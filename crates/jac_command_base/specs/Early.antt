@@ -1,4 +1,4 @@
--- How a command ends early: its files give no application, or no sessions.
+-- How a command ends early: its files have no application, or no sessions.
 use Rattle.std.specs.Prelude.{⊤, ℕ, Result, Ok, Err, List}
 use Rattle.jac_io.specs.Faults.{Rose}
 use Rattle.jac_lang.specs.Syntax.{Application}

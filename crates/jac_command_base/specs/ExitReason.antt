@@ -1,4 +1,4 @@
--- Why the steps of a command end, and the line that says so.
+-- Why a command ends, and the message.
 use Rattle.std.specs.Prelude.{◌≡◌, ◌⊎◌, ℕ, Result, Ok, Err, List, [], ◌++◌, drop, codes, decimal}
 use Rattle.jac_io.specs.Faults.{Rose}
 use Rattle.jac_io.specs.Seen.{SinkSeen, Lasts}

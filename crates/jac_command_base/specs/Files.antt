@@ -1,4 +1,4 @@
--- What a run sees of the machine, and the files that it reads.
+-- What a run sees of the machine, and which files it reads.
 use Rattle.std.specs.Prelude.{◌≡◌, ◌≤◌, ◌<◌, ◌⊎◌, ⊤, ℕ, is_some, IsTrue, IsSomeAnd, Ok, Err, Option, Some, None, option_to_list, List, [], ◌∷◌, ◌++◌, length}
 use Rattle.jac_io.specs.Faults.{Rose}
 use Rattle.jac_io.specs.Seen.{FilesSeen, SinkSeen}

@@ -1,4 +1,4 @@
--- The text of the calendar that is shown to try the program.
+-- The text of the demonstration's application, a calendar.
 use Rattle.std.specs.Prelude.{ℕ, List, ◌++◌, codes}
 
 -- users, and events whose titles only their hosts see unless they are open; three views, which

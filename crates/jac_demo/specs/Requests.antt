@@ -1,4 +1,4 @@
--- The requests that `jac demo` generates, one on each line.
+-- The requests that `jac demo` makes, one on each line.
 use Rattle.std.specs.Prelude.{ℕ, zero, suc, List, [], ◌++◌, ◌+◌, ◌*◌, ◌%◌, ◌==◌, nat_le, if◌then◌else◌, codes, decimal}
 
 -- the i-th user joins

@@ -1,4 +1,4 @@
--- How requests are answered from a store, entry by entry of the log.
+-- How requests are answered from a store, one log entry at a time.
 use Rattle.std.specs.Prelude.{◌≡◌, ℕ, ◌⊎◌, Bool, IsTrue, true, false, if◌then◌else◌, Option, Some, None, List, [], ◌∷◌, ◌++◌, ⊤}
 use Rattle.jac_lang.specs.Syntax.{Application}
 use Rattle.jac_rows.specs.Good.{IsGood}

@@ -1,4 +1,4 @@
--- The request that an `ask` line or a connection brings.
+-- The request that an `ask` line or a connection makes.
 use Rattle.std.specs.Prelude.{ℕ, ◌++◌, if◌then◌else◌, Option, Some, None, List, [], codes}
 use Rattle.std.specs.Str.{bytes_eq}
 use Rattle.jac_lang.specs.Syntax.{Application}

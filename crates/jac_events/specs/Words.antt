@@ -1,4 +1,4 @@
--- Words and quoted texts, as they stand at the front of a line's rest.
+-- How a word or a quoted text is read from the start of a line's rest.
 use Rattle.std.specs.Prelude.{ℕ, ◌+◌, ◌-◌, ◌*◌, ◌==◌, ◌&&◌, nat_le, if◌then◌else◌, Option, Some, None, List, [], ◌∷◌, take, drop, position}
 use Rattle.std.specs.Option.{option_map, option_and_then}
 

@@ -1,4 +1,4 @@
--- Applications as trees write them.
+-- How trees represent applications.
 use Rattle.std.specs.Prelude.{ℕ, ◌+◌, Bool, true, false, nat_le, if◌then◌else◌, Option, Some, None, List, [], ◌∷◌, codes}
 use Rattle.std.specs.Str.{bytes_eq}
 use Rattle.jac_lang.specs.Syntax.{Expression, Assigned, FieldGroup, Entity, Page, Application}

@@ -1,4 +1,4 @@
--- Expressions and queries as trees write them.
+-- How trees represent expressions and queries.
 use Rattle.std.specs.Prelude.{ℕ, ◌+◌, ℤ, Bool, true, false, nat_le, if◌then◌else◌, Option, Some, None, List, [], ◌∷◌, codes}
 use Rattle.std.specs.Str.{bytes_eq}
 use Rattle.jac_lang.specs.Syntax.{Expression, Expressions, Question}

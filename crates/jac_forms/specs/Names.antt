@@ -1,4 +1,4 @@
--- Words, names, and lists of trees.
+-- How trees represent words, names and lists.
 use Rattle.std.specs.Prelude.{ℕ, ◌+◌, if◌then◌else◌, Option, List, [], ◌∷◌}
 use Rattle.jac_tree.specs.Plain.{PlainTree, PlainTrees}
 use Rattle.jac_value.specs.Names.{is_name}

@@ -1,4 +1,4 @@
--- Where a tree stands within another.
+-- The position of a tree within another tree.
 use Rattle.std.specs.Prelude.{ℕ, List, [], ◌∷◌, ◌++◌}
 use Rattle.jac_forms.specs.declared.place.Place.{Place, Top, Child'}
 

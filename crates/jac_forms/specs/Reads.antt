@@ -1,4 +1,4 @@
--- What a tree is read as: a value, or the fault that comes first.
+-- The result of reading a tree: a value, or its first fault.
 use Rattle.std.specs.Prelude.{ℕ, nat_le, if◌then◌else◌, Option, Some, None, List}
 use Rattle.jac_tree.specs.Plain.{PlainTrees}
 use Rattle.jac_forms.specs.declared.fault.FormFault.{FormFault}

@@ -1,4 +1,4 @@
--- Statements as trees write them.
+-- How trees represent statements.
 use Rattle.std.specs.Prelude.{ℕ, ◌+◌, min, if◌then◌else◌, Option, Some, None, List, codes}
 use Rattle.std.specs.Str.{bytes_eq}
 use Rattle.jac_lang.specs.Syntax.{Expression, Question, Assigned, Statement, Statements}

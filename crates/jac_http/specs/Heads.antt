@@ -1,4 +1,4 @@
--- Where a request's head ends, and what is read of it (RFC 9112, sections 2 to 5).
+-- Where the head of a request ends, and what is read from it (RFC 9112, sections 2 to 5).
 use Rattle.std.specs.Prelude.{ℕ, Bool, ◌==◌, ◌&&◌, ◌||◌, not, if◌then◌else◌, Option, Some, None, List, [], ◌∷◌, ◌++◌, map, codes}
 use Rattle.std.specs.List.{list_any, ends_with}
 use Rattle.httparse.specs.Grammar.{RequestHead}

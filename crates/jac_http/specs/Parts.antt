@@ -1,4 +1,5 @@
--- What the target and the headers of a request say (RFC 9112, sections 3 and 6; RFC 6265, section
+-- What the target and the headers of a request mean (RFC 9112, sections 3 and 6; RFC 6265, section
+-- 4.2).
 -- 4.2).
 use Rattle.std.specs.Prelude.{ℕ, Bool, false, ◌==◌, ◌&&◌, ◌||◌, not, nat_lt, if◌then◌else◌, Option, Some, None, List, [], ◌∷◌, reverse, length, take, drop, position, codes, ◌+◌}
 use Rattle.std.specs.Char.{is_ascii_digit}

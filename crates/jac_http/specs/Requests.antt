@@ -1,4 +1,4 @@
--- What stands at the front of a connection's bytes.
+-- What the first bytes of a connection are: a request, a refused one, or a part of one.
 use Rattle.std.specs.Prelude.{◌≡◌, ℕ, ◌+◌, ◌⊎◌, Bool, ◌==◌, ◌&&◌, ◌||◌, not, nat_lt, if◌then◌else◌, Option, Some, None, is_none, unwrap_or, List, [], ◌∷◌, length, take, drop, codes}
 use Rattle.std.specs.List.{list_any}
 use Rattle.std.specs.Str.{bytes_eq}

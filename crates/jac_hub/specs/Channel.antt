@@ -1,4 +1,4 @@
--- One connection, as the hub keeps it.
+-- The state of one connection in the hub.
 use Rattle.std.specs.Prelude.{◌≡◌, ℕ, ◌<◌, ◌+◌, ◌-◌, ◌||◌, ◌⊎◌, nat_le, Bool, true, false, Option, Some, None, List, [], ◌++◌, length, take, drop}
 use Rattle.jac_http.specs.declared.taken.Taken.{Taken}
 use Rattle.jac_http.specs.declared.taken.Taken.TheVariants.{More, Whole, Refused}

@@ -1,4 +1,4 @@
--- What events bring: the subjects of a log, in order. It speaks of the joined bytes of each
+-- The requests that events bring, in order. The definitions join the bytes of each connection.
 -- connection.
 use Rattle.std.specs.Prelude.{◌≡◌, ℕ, ◌+◌, ◌==◌, ◌||◌, ◌⊎◌, nat_le, Bool, true, false, if◌then◌else◌, Option, Some, None, List, [], ◌∷◌, ◌++◌, length, take, drop}
 use Rattle.std.specs.Option.{option_map}

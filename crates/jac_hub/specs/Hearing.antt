@@ -1,4 +1,4 @@
--- What is heard, and how bytes and lines are understood.
+-- How bytes and lines are read as requests.
 use Rattle.std.specs.Prelude.{ℕ, Bool, Option, List}
 use Rattle.jac_http.specs.declared.taken.Request.{Request}
 use Rattle.jac_http.specs.declared.taken.Taken.{Taken}

@@ -1,4 +1,4 @@
--- counts that stand still at the largest u64
+-- Counts of faults, which stop at the largest u64
 use Rattle.std.specs.Prelude.{ℕ, ◌+◌, ◌-◌, ◌^◌, ◌≤◌, min}
 
 -- the count after one more

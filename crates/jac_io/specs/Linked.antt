@@ -1,4 +1,6 @@
--- What contracts see of links and doors, and what their calls leave. A link is one connection's two
+-- What contracts see of connections and listening sockets, and how calls change it. A link is one
+-- connection: bytes are taken from it and written to it. A door gives a link for each connection
+-- that arrives.
 -- ways: bytes are taken from it and put on it. A door gives links, one for each connection that
 -- came.
 use Rattle.std.specs.Prelude.{◌≡◌, ◌≤◌, ◌++◌, ◌∷◌, [], ℕ, Bool, List, Option, Some, None, Result, IfOk, OnOk, OnErr, IsTrue, length, take}

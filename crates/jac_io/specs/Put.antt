@@ -1,4 +1,4 @@
--- what a put may leave
+-- What a write may append to an output: all of its bytes, or a first part if it fails
 use Rattle.std.specs.Prelude.{ℕ, List, ◌++◌, ◌≡◌}
 
 -- a prefix of the bytes was appended

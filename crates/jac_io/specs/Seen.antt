@@ -1,4 +1,4 @@
--- What contracts see of files and sinks, and what their calls leave.
+-- What contracts see of files and outputs, and how calls change it.
 use Rattle.std.specs.Prelude.{◌≡◌, ◌≤◌, ◌<◌, ◌++◌, ◌∷◌, [], ℕ, Bool, List, Option, Some, Result, Err, IfOk, OnOk, OnErr, IsTrue, IsSomeAnd, length}
 use Rattle.jac_io.specs.Faults.{Rose}
 use Rattle.jac_io.specs.Put.{AddsPrefix}

@@ -1,4 +1,4 @@
--- Records with all their new rows.
+-- Changes to a table: for each changed record, all of its new rows.
 use Rattle.std.specs.Prelude.{ℕ, ◌+◌, ◌<◌, ◌==◌, nat_lt, Bool, false, ◌||◌, if◌then◌else◌, List, [], ◌∷◌, length, ⊤, Option, Some, None}
 use Rattle.jac_value.specs.Ids.{model_of_id}
 use Rattle.jac_world.specs.World.{IsRisingBy}

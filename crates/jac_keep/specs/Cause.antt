@@ -1,4 +1,4 @@
--- why a call stopped
+-- Why a call stopped early
 use Rattle.std.specs.Prelude.{ℕ, ◌≤◌, Result, IsErrOf}
 use Rattle.jac_io.specs.Faults.{Rose}
 use Rattle.jac_keep.specs.declared.stop.Stop.{Stop}

@@ -1,4 +1,4 @@
--- The state after one record was replaced, or after a whole change.
+-- The state after one record is replaced, or after a whole change.
 use Rattle.std.specs.Prelude.{ℕ, List, [], ◌∷◌}
 use Rattle.jac_rows.specs.declared.row.Row.{Row}
 use Rattle.jac_rows.specs.declared.state.State.{State}

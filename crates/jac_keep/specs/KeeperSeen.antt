@@ -1,4 +1,4 @@
--- what contracts see of a keeper, and what its calls keep
+-- What contracts see of a store, and what its calls don't change
 use Rattle.std.specs.Prelude.{◌≡◌, ◌≤◌, ℕ, Bool, List, Option, IsTrue, Result, IsErrOf}
 use Rattle.jac_io.specs.Faults.{Rose}
 use Rattle.jac_rows.specs.declared.state.State.{State}

@@ -1,4 +1,4 @@
--- The records with a row that has a certain value in a field.
+-- The records that have a row with a given value in a field.
 use Rattle.std.specs.Prelude.{ℕ, ◌==◌, Bool, false, ◌&&◌, if◌then◌else◌, List, [], ◌∷◌, Option, Some, None, slice_get}
 use Rattle.std.specs.List.{list_any}
 use Rattle.jac_value.specs.declared.value.Value.{Value}

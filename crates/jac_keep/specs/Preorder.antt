@@ -1,4 +1,4 @@
--- relations that one step after another keeps
+-- Relations that hold over a sequence of steps if they hold for each step
 use Rattle.std.specs.Prelude.{⊤}
 
 -- a relation that holds of each value and itself, and along two steps where it holds along each

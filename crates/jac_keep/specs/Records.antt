@@ -1,4 +1,4 @@
--- the rows of a table by their ids
+-- The rows of a table, by the ids of their records
 use Rattle.std.specs.Prelude.{◌≡◌, ◌≤◌, ℕ, Bool, true, false, ◌==◌, nat_lt, if◌then◌else◌, List, [], ◌∷◌, ◌++◌, ⊤}
 use Rattle.std.specs.List.{AllByRecursion}
 use Rattle.jac_rows.specs.declared.row.Row.{Row}

@@ -1,4 +1,4 @@
--- Models, fields and groups by name and by number: a number is the place in the text.
+-- How models, fields and groups are found by name, and by their position in the text.
 use Rattle.std.specs.Prelude.{ℕ, Bool, true, false, ◌==◌, if◌then◌else◌, List, [], ◌∷◌, length, position, slice_get, unwrap_or, Option, Some, None}
 use Rattle.std.specs.Cmp.Lexicographic.{pointwise}
 use Rattle.jac_value.specs.declared.value.Kind.{Kind}

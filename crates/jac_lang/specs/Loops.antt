@@ -1,4 +1,4 @@
--- Where a record may be created: outside of loops, or in one loop over one binder.
+-- Where a view may create a record: outside of loops, or in one loop over one binder.
 use Rattle.std.specs.Prelude.{Bool, true, false, not, ◌&&◌, List, [], ◌∷◌}
 use Rattle.jac_lang.specs.declared.queries.Binder.{Binder}
 use Rattle.jac_lang.specs.Lookup.{is_nested_named}

@@ -1,4 +1,4 @@
--- The language as plain data: what the types of the program are to a reader, with no pointers in
+-- The syntax of the language, as plain data without pointers.
 -- them.
 use Rattle.std.specs.Prelude.{ℕ, ℤ, Bool, true, false, List, Option}
 use Rattle.jac_lang.specs.declared.expressions.Op.{Op}

@@ -1,4 +1,4 @@
--- What the models of an application say of tables, and the applications that hide nothing.
+-- What an application's models require of tables, and which applications hide nothing.
 use Rattle.std.specs.Prelude.{◌≡◌, ℕ, ◌&&◌, nat_lt, Bool, true, false, List, [], ◌∷◌}
 use Rattle.std.specs.List.{AllByRecursion}
 use Rattle.jac_value.specs.Ids.{is_narrow, is_wide}

@@ -1,4 +1,4 @@
--- Which labels a viewer may be shown, said of a plain state for each assignment.
+-- Which labels a viewer may be shown. A plain state is given for each assignment.
 use Rattle.std.specs.Prelude.{◌≡◌, ℕ, Bool, true, false, ◌&&◌, ◌||◌, ◌==◌, List, [], Option, Some, None, slice_get}
 use Rattle.jac_value.specs.Ids.{model_of_id, record_of_label, group_of_label}
 use Rattle.jac_world.specs.World.{shown_by, IsAscending}

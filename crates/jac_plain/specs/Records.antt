@@ -1,4 +1,4 @@
--- Records as a write leaves them in one world: their cells, and the rows of their table.
+-- What a write makes of a record in one world: its cells, and the rows of its table.
 use Rattle.std.specs.Prelude.{ℕ, ◌+◌, ◌==◌, ◌&&◌, not, nat_lt, zero, suc, Bool, true, false, if◌then◌else◌, List, [], ◌∷◌, ◌++◌, slice_get, slice_set, Option, Some, None}
 use Rattle.jac_value.specs.declared.value.Kind.{Kind}
 use Rattle.jac_value.specs.declared.value.Value.{Value}

@@ -1,4 +1,4 @@
--- What expressions and statements are read in, in the world that an assignment shows.
+-- The world and the bindings that an assignment shows.
 use Rattle.std.specs.Prelude.{ℕ, Bool, List}
 use Rattle.jac_lang.specs.declared.application.App.{App}
 use Rattle.jac_lang.specs.Mirror.{application_of}

@@ -1,4 +1,4 @@
--- One world: plain tables, and who asks.
+-- A world: plain tables, and a viewer.
 use Rattle.std.specs.Prelude.{ℕ, ◌==◌, if◌then◌else◌, List, [], ◌∷◌, slice_get, unwrap_or, Option, Some, None, pos}
 use Rattle.jac_value.specs.declared.value.Value.{Value}
 use Rattle.jac_value.specs.declared.value.Value.TheVariants as value

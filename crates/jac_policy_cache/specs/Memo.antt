@@ -1,4 +1,4 @@
--- Cached answers of policies, each with the consulted labels and whether these were shown.
+-- Cached results of policies. Each has the labels that were consulted, and whether they were shown.
 use Rattle.std.specs.Prelude.{◌≡◌, ◌%◌, ℕ, Bool, true, false, List, [], ◌∷◌, Option, Some, None, is_some, if◌then◌else◌}
 use Rattle.std.specs.List.{list_any}
 use Rattle.std.specs.Ordering.{nat_cmp}

@@ -1,4 +1,4 @@
--- The labels that were consulted.
+-- The labels that an evaluation consulted.
 use Rattle.std.specs.Prelude.{◌≡◌, ℕ, Bool, true, List}
 use Rattle.jac_world.specs.World.{shown_by}
 

@@ -1,4 +1,5 @@
--- Local applications, in which what a policy reads of guarded records is its own record, and local
+-- Local applications and local states. In a local application a policy reads only its own record of
+-- the guarded ones. In a local state the rows of a record depend on its own labels.
 -- states, in which a record's rows depend on its own labels.
 use Rattle.std.specs.Prelude.{◌≡◌, ℕ, ◌&&◌, ◌||◌, Bool, true, false, List, [], ◌∷◌, Option, Some, None, ⊤}
 use Rattle.std.specs.List.{AllByRecursion}

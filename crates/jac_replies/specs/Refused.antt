@@ -1,4 +1,4 @@
--- An answer without a page.
+-- A reply without a page.
 use Rattle.std.specs.Prelude.{ℕ, ◌==◌, ◌++◌, if◌then◌else◌, Option, None, List, [], ◌∷◌, codes, decimal}
 use Rattle.jac_replies.specs.declared.answer.Answer.{Answer}
 

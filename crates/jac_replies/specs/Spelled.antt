@@ -1,4 +1,4 @@
--- The text of a reply, and of its audit line.
+-- The text of a reply and of its audit line.
 use Rattle.std.specs.Prelude.{ℕ, if◌then◌else◌, Option, Some, None, List, [], ◌∷◌, ◌++◌, codes, decimal}
 use Rattle.std.specs.Str.{bytes_eq}
 use Rattle.jac_value.specs.Quoted.{quoted_bytes}

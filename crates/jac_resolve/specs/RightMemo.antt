@@ -1,4 +1,4 @@
--- When a cache of policies' answers is right, while labels are tried.
+-- When cached results of policies are right, while labels are tried.
 use Rattle.std.specs.Prelude.{◌≡◌, ◌==◌, ◌||◌, ℕ, Bool, true, false, List, Option, Some, is_some, ⊤}
 use Rattle.jac_world.specs.World.{shown_by, holds}
 use Rattle.jac_lang.specs.Syntax.{Application}

@@ -1,4 +1,4 @@
--- What each round of settling labels leaves. The definition of a settled set knows none of it.
+-- The result of each round of settling labels. The definition of settled labels doesn't use it.
 use Rattle.std.specs.Prelude.{◌≡◌, ℕ, ◌+◌, ◌*◌, ◌<◌, ◌≤◌, Bool, true, false, if◌then◌else◌, ◌||◌, List, [], ◌∷◌, Option, length}
 use Rattle.jac_world.specs.World.{shown_by, IsAscending}
 use Rattle.jac_lang.specs.Syntax.{Application}

@@ -1,4 +1,4 @@
--- What a request finds.
+-- The view that a request finds, or why it finds none.
 use Rattle.std.specs.Prelude.{ℕ, ◌<◌, ◌||◌, ⊤, if◌then◌else◌, List, Option, Some, None, is_some, Result, Ok, Err, codes}
 use Rattle.std.specs.Str.{bytes_eq}
 use Rattle.matchit.specs.Router.{RouteOf}

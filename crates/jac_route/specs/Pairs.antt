@@ -1,4 +1,4 @@
--- The pairs of a query or a form body.
+-- The pairs of names and values in a query string or a form's body.
 use Rattle.std.specs.Prelude.{ℕ, List, [], ◌∷◌, if◌then◌else◌, Option, Some, None, map}
 use Rattle.std.specs.Str.{bytes_eq}
 use Rattle.std.specs.Str.Lossy.{utf8_lossy}

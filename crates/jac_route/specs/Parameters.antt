@@ -1,4 +1,4 @@
--- What a view's parameters are bound to, and who looks.
+-- The values of a view's parameters, and the viewer of a request.
 use Rattle.std.specs.Prelude.{ℕ, if◌then◌else◌, List, [], ◌∷◌, Option, Some, None}
 use Rattle.jac_value.specs.declared.value.Kind.{Kind}
 use Rattle.jac_value.specs.declared.value.Value.{Value}

@@ -1,4 +1,4 @@
--- The pairs that a path gives to the names in a pattern.
+-- The values that a path gives to the names in a pattern.
 use Rattle.std.specs.Prelude.{ℕ, List, [], ◌∷◌, ◌++◌, Option, Some, None}
 use Rattle.std.specs.Str.Lossy.{utf8_lossy}
 use Rattle.percent_encoding.specs.Percent.{percent_decode}

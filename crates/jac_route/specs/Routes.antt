@@ -1,4 +1,4 @@
--- The routes of an application: each pattern once, with the views that have it.
+-- The table of routes: each pattern once, with its views.
 use Rattle.std.specs.Prelude.{◌≡◌, ℕ, ◌+◌, ◌==◌, ◌&&◌, not, Bool, true, false, if◌then◌else◌, List, [], ◌∷◌, ⊤, Option, Some, None, is_some, position, Result, Ok, Err}
 use Rattle.std.specs.Str.{bytes_eq}
 use Rattle.matchit.specs.Rows.{RowsOf}

@@ -1,4 +1,4 @@
--- The lines of a sessions file, and who looks by a token.
+-- The lines of a sessions file, and the viewer that a token stands for.
 use Rattle.std.specs.Prelude.{ℕ, ◌+◌, ◌==◌, if◌then◌else◌, List, [], ◌∷◌, ◌++◌, ◌≡◌, ⊤, Option, Some, None, Result, Ok, Err}
 use Rattle.std.specs.Option.{option_and_then}
 use Rattle.std.specs.List.{slice_split}

@@ -1,4 +1,4 @@
--- A line's first word.
+-- The first word of a line.
 use Rattle.std.specs.Prelude.{ℕ, ◌+◌, ◌==◌, Option, List, take, drop, position}
 use Rattle.std.specs.Option.{option_map}
 

@@ -1,4 +1,4 @@
--- Rows as a table has them, whatever a row is.
+-- Tables whose rows may be of any type.
 use Rattle.std.specs.Prelude.{◌≡◌, ℕ, ◌≤◌, Bool, List, [], ◌∷◌, ⊤}
 use Rattle.jac_world.specs.World.{IsApart}
 

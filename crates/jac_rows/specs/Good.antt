@@ -1,4 +1,5 @@
--- Good states, as what every assignment shows and by guards; and sound ones, whose cells may be of
+-- Which states are well formed. Good states are defined by what each assignment shows, and by
+-- guards. The cells of sound states may be of any kind.
 -- any kind.
 use Rattle.std.specs.Prelude.{◌≡◌, ℕ, ◌+◌, ◌<◌, ◌≤◌, ◌^◌, Bool, true, false, ◌&&◌, List, [], ◌∷◌, IsSomeAnd, slice_get, ⊤}
 use Rattle.std.specs.List.{AllByRecursion}

@@ -1,4 +1,4 @@
--- The plain rows, tables and state that an assignment shows.
+-- Projection: the plain rows, tables and state that an assignment shows.
 use Rattle.std.specs.Prelude.{ℕ, Bool, if◌then◌else◌, List, [], ◌∷◌, map}
 use Rattle.jac_world.specs.World.{holds}
 use Rattle.jac_rows.specs.declared.row.Row.{Row}

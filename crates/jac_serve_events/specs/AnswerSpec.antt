@@ -1,4 +1,4 @@
--- How an application answers, as the code that serves it sees it.
+-- How an application answers, as the serving code sees it.
 use Rattle.std.specs.Prelude.{◌≡◌, ℕ, ◌==◌, ◌||◌, Bool, true, false, Option, None, List, [], ◌∷◌, ◌++◌}
 use Rattle.jac_events.specs.declared.event.Event.{Event}
 use Rattle.jac_http.specs.Requests.{IsTaken}

@@ -1,4 +1,4 @@
--- The lines of an events file.
+-- How an events file is split into lines.
 use Rattle.std.specs.Prelude.{ℕ, ◌==◌, Bool, true, false, List, [], ◌∷◌}
 use Rattle.std.specs.List.{slice_split}
 

@@ -1,4 +1,4 @@
--- What calls see of an object before and after, and what they write to outputs.
+-- How calls change what contracts see of an object, and what they write to outputs.
 use Rattle.std.specs.Prelude.{◌≡◌, ◌≤◌, ◌⊎◌, ℕ, IsTrue, OnErr, Result, Ok, Err, List, [], ◌++◌}
 use Rattle.jac_io.specs.Faults.{Rose}
 use Rattle.jac_io.specs.Seen.{SinkSeen, Lasts}

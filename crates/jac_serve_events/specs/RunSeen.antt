@@ -1,4 +1,4 @@
--- What a run sees of its store, counts and caches.
+-- What contracts see of a run: its store, its counts and its caches.
 use Rattle.std.specs.Prelude.{◌≡◌, ℕ, ◌+◌, ◌-◌, ◌^◌, ◌≤◌, min, List, []}
 use Rattle.jac_keep.specs.KeeperSeen.{KeeperSeen}
 use Rattle.jac_viewer_caches.specs.declared.viewer_caches.ViewerEntry.{ViewerEntry}

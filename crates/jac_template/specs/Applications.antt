@@ -1,4 +1,4 @@
--- An application whose templates are expanded.
+-- An application after its templates are expanded.
 use Rattle.std.specs.Prelude.{◌≡◌, ◌⊎◌, ℕ, ◌+◌, List, [], ◌∷◌}
 use Rattle.jac_lang.specs.Syntax.{Statement, Statements, Page, Application}
 use Rattle.jac_template.specs.Expansion.{Expansion, Expands}

@@ -1,4 +1,4 @@
--- What the text of a template expands to.
+-- The statements that the text of a template expands to.
 use Rattle.std.specs.Prelude.{ℕ, List, []}
 use Rattle.jac_lang.specs.Syntax.{Statements}
 use Rattle.jac_template.specs.Faults.{Fault}

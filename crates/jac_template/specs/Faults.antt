@@ -1,4 +1,4 @@
--- The faults of a template.
+-- Which faults a template can have.
 use Rattle.std.specs.Prelude.{◌≡◌, ℕ, Bool, true, false}
 use Rattle.jac_forms.specs.declared.fault.FormFault.{FormFault}
 use Rattle.jac_forms.specs.declared.fault.FormFault.TheVariants as forms

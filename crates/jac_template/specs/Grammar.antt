@@ -1,4 +1,4 @@
--- Which pieces write which statements, and where pieces that write none have their first fault.
+-- Which statements the pieces of a template stand for, or where its first fault is.
 use Rattle.std.specs.Prelude.{◌≡◌, ◌⊎◌, ℕ, suc, ◌<◌, nat_lt, Bool, true, false, if◌then◌else◌, Option, Some, None, List, [], ◌∷◌, length}
 use Rattle.jac_lang.specs.Syntax.{Statement, Statements}
 use Rattle.jac_template.specs.Faults.{Fault}

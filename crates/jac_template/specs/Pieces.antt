@@ -1,4 +1,4 @@
--- How the text of a template is cut into pieces: literal text, and tags with what stands in them.
+-- How the text of a template is cut into pieces: literal text and tags.
 use Rattle.std.specs.Prelude.{ℕ, zero, suc, ◌+◌, ◌-◌, ◌==◌, ◌&&◌, ◌||◌, Bool, false, if◌then◌else◌, Option, Some, None, List, [], ◌∷◌, length, take, drop}
 use Rattle.std.specs.Option.{option_map}
 use Rattle.jac_template.specs.declared.pieces.Kind.{Kind}

@@ -1,4 +1,5 @@
--- Which fault bytes have: the first one by length, encoding and place.
+-- The fault that bytes have if they aren't the text of a tree. The order is length, encoding,
+-- place.
 use Rattle.std.specs.Prelude.{ℕ, ◌<◌, ◌≤◌, List, length, IsUtf8}
 use Rattle.std.specs.Str.{IsValidUpTo}
 use Rattle.jac_tree.specs.declared.fault.TreeFault.{TreeFault}

@@ -1,4 +1,4 @@
--- Which bytes spell which tree.
+-- The grammar of trees: which bytes are the text of which tree.
 use Rattle.std.specs.Prelude.{◌≡◌, ◌≢◌, ◌+◌, ◌<◌, ◌≤◌, ℕ, Bool, true, false, not, ◌||◌, ◌==◌, ◌⊎◌, List, [], ◌∷◌, ◌++◌, length, take, slice_index, Option, Some, None, if◌then◌else◌, IsUtf8}
 use Rattle.std.specs.List.{list_all}
 use Rattle.jac_value.specs.Names.{is_atom_byte}

@@ -1,4 +1,4 @@
--- Trees without the places where they lie in memory.
+-- Trees without their memory addresses.
 use Rattle.std.specs.Prelude.{ℕ, ◌+◌, max, Bool, false, if◌then◌else◌, Option, Some, None, List, [], ◌∷◌, length}
 use Rattle.std.specs.Str.{bytes_eq}
 

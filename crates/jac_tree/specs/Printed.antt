@@ -1,4 +1,4 @@
--- The bytes that a tree is printed as: one of its spellings, with nothing between that needn't be.
+-- The bytes that a tree is printed as. They have no unneeded spaces.
 use Rattle.std.specs.Prelude.{◌≡◌, ◌≢◌, ℕ, ◌==◌, true, List, [], ◌∷◌, ◌++◌, if◌then◌else◌}
 use Rattle.jac_tree.specs.Grammar.{are_atom_bytes}
 use Rattle.jac_tree.specs.Plain.{PlainTree, PlainTrees}

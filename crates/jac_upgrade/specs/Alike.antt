@@ -1,4 +1,4 @@
--- Fields with the same name and kind, and groups that guard or hide the same.
+-- When two fields have the same name and kind, and when two groups guard or hide the same.
 use Rattle.std.specs.Prelude.{ℕ, Bool, true, false, ◌&&◌, List, [], ◌∷◌}
 use mathlib.Core.Bool.{beq}
 use Rattle.jac_lang.specs.declared.field_kinds.Field.{Field}

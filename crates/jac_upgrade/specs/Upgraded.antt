@@ -1,4 +1,4 @@
--- What an upgrade makes of the records, in one world.
+-- The records after an upgrade, in one world.
 use Rattle.std.specs.Prelude.{ℕ, ◌+◌, ◌-◌, zero, suc, Bool, if◌then◌else◌, List, [], ◌∷◌, ◌++◌, length, drop}
 use Rattle.jac_value.specs.declared.value.Value.{Value}
 use Rattle.jac_lang.specs.Lookup.{fields_at, groups_at}

@@ -1,4 +1,4 @@
--- Cells whose copies share their values.
+-- Lists of cells. A copy shares the values of the original.
 use Rattle.std.specs.Prelude.{List}
 use Rattle.jac_value.specs.declared.value.Value.{Value}
 use Rattle.jac_value.specs.declared.cells.CellList.{CellList}

@@ -1,4 +1,4 @@
--- How HTML shows a text.
+-- How a text is escaped for HTML.
 use Rattle.std.specs.Prelude.{ℕ, ◌==◌, if◌then◌else◌, List, [], ◌∷◌, codes}
 use Rattle.std.specs.List.{flat_map}
 

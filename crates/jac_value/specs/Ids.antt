@@ -1,4 +1,4 @@
--- The numbers of records and of labels.
+-- The numbers that name records and labels.
 use Rattle.std.specs.Prelude.{ℕ, ◌+◌, ◌*◌, ◌/◌, ◌%◌, ◌^◌, zero, suc, List, [], ◌∷◌, ◌++◌, Bool, ◌&&◌, ◌||◌, ◌==◌, nat_lt, nat_le}
 
 -- the id that a creating statement gives: `n` numbers the accepted request, `s` the statement in

@@ -1,4 +1,4 @@
--- How bytes stand between quotes on a line of output.
+-- How bytes are quoted on a line of output.
 use Rattle.std.specs.Prelude.{ℕ, ◌+◌, ◌/◌, ◌%◌, ◌==◌, ◌&&◌, nat_lt, nat_le, if◌then◌else◌, List, [], ◌∷◌, ◌++◌, codes}
 
 -- a digit of base 16, in lower case

@@ -1,4 +1,4 @@
--- Kinds and values: defaults, the text of a value, and what a text reads as.
+-- Kinds and values, their defaults, their text, and how a text is read as a value.
 use Rattle.std.specs.Prelude.{ℕ, Bool, true, false, ◌&&◌, ◌||◌, ◌==◌, nat_lt, nat_le, if◌then◌else◌, List, [], length, drop, slice_index, codes, ℤ, pos, neg_ℤ, Option, Some, None}
 use Rattle.std.specs.Cmp.Lexicographic.{pointwise}
 use Rattle.std.specs.Char.{is_digit}

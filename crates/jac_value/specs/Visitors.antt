@@ -1,4 +1,4 @@
--- Who asks, as lines and cookies write it: a session's token, and the number of a viewer.
+-- How a viewer is written in lines and cookies: as a session's token, or as a number.
 use Rattle.std.specs.Prelude.{ℕ, ◌^◌, ◌&&◌, nat_le, nat_lt, Bool, if◌then◌else◌, Option, Some, None, List, length, codes}
 use Rattle.std.specs.Option.{option_map}
 use Rattle.std.specs.List.{list_all}

@@ -1,4 +1,4 @@
--- The labels that a viewer is shown, with the worlds of a state.
+-- The labels that a viewer is shown, and the worlds of a state.
 use Rattle.std.specs.Prelude.{ℕ, List, Option}
 use Rattle.jac_lang.specs.Mirror.{application_of}
 use Rattle.jac_lang.specs.Syntax.{Application}

@@ -1,4 +1,4 @@
--- A label as `why` writes it: with the model of its record, and its group.
+-- How `why` writes a label: as the model of its record, and its group.
 use Rattle.std.specs.Prelude.{ℕ, Bool, ◌&&◌, ◌==◌}
 use Rattle.jac_value.specs.Ids.{model_of_id, record_of_label, group_of_label}
 use Rattle.jac_why.specs.declared.reasons.Reason.{Reason}

@@ -1,4 +1,4 @@
--- Guards whose copies share their pairs.
+-- Guards as lists of pairs. A copy shares the pairs of the original.
 use Rattle.std.specs.Prelude.{ℕ, Bool, List}
 use Rattle.jac_world.specs.declared.guard.PairList.{PairList}
 use Rattle.jac_world.specs.declared.guard.PairList.TheVariants as list

@@ -2,7 +2,8 @@ use Rattle.std.specs.Prelude.{◌≡◌, ℕ, ◌<◌, Bool, true, false, not, n
 use Rattle.std.specs.List.{list_any, list_all, AllByRecursion}
 use mathlib.Core.Bool.{beq}
 
--- An assignment is a test on labels: true where the label is shown. A guard is a list of labels
+-- Assignments and guards. An assignment is a test on labels: true if the label is shown. A guard is
+-- a list of labels with signs.
 -- with signs.
 
 -- what a list of shown labels shows

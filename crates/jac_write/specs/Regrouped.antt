@@ -1,4 +1,4 @@
--- What is stored of a record after an upgrade gives it new groups.
+-- The rows of a record after an upgrade gives it new groups.
 use Rattle.std.specs.Prelude.{ℕ, nat_le, Bool, false, not, ◌&&◌, if◌then◌else◌, List, [], map, Option, Some, None}
 use Rattle.jac_value.specs.declared.value.Value.{Value}
 use Rattle.jac_lang.specs.Lookup.{fields_at, groups_at, group_in, hiding_place}
