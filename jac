@@ -1,7 +1,7 @@
 #!/usr/bin/env bash
-# Runs the program on the words that follow: the proved one where it stands, or else an unproved trial of the same
-# sources, which is built at the first call and after each change of them. Where JAC_PROVED is set, as checks set it,
-# no trial is built or run. docs/USING.md, "Trial and proof", says what is told when.
+# Runs the program with these arguments: the proved program if it is built, or else an unproved trial of the same
+# sources. The trial is built at the first call and after each change of the sources. If JAC_PROVED is set, as the
+# checks set it, no trial is built or run. docs/USING.md, "Trial and proof", says when which message is printed.
 set -eu
 top=$(cd "$(dirname "$(readlink -f "$0")")" && pwd)
 proved=$top/crates/jac_main/out/jac_main
@@ -11,8 +11,8 @@ tell() {
     echo "jac: $1" >&2
 }
 
-# Whether the files that a program was built of are as they were: by their sizes and times, which are beside it, or else
-# by what they hold.
+# Whether the sources of a program are as they were when it was built: by their sizes and times, which are recorded in a
+# file beside it, or else by their content.
 is_current() {
     local was paths
     if { read -r was && read -r _ && mapfile -t paths; } 2>/dev/null <"$1.sources" \
@@ -22,7 +22,7 @@ is_current() {
     python3 "$top/tools/program.py" "$1"
 }
 
-# The program that these words are for.
+# Chooses the program to run.
 choose() {
     if [ -x "$proved" ]; then
         program=$proved
@@ -38,8 +38,8 @@ choose() {
     fi
 }
 
-# The command that runs the program on these words: where one of them is a folder, as an application may be, by the
-# script that puts it together.
+# Chooses the command that runs the program. If an argument is a folder, as an application may be, the command is the
+# script that joins the folder's parts.
 choose_command() {
     command=("$program")
     local word
@@ -48,12 +48,12 @@ choose_command() {
     done
 }
 
-# An upgrade first keeps a copy of the store.
+# Makes an upgrade keep a copy of the store first.
 keep_a_copy() {
     command=(python3 "$top/tools/store_copies.py" upgrade "${command[@]}")
 }
 
-# A store that is a pipe is refused at once: the program would wait for who writes to it.
+# Refuses a store that is a pipe, because the program would wait until somebody writes to the pipe.
 refuse_a_pipe() {
     local word store= before=
     for word in "$@"; do
@@ -71,8 +71,8 @@ refuse_a_pipe() {
     fi
 }
 
-# A command that ends by itself. Where it refuses its words, a file or a store, standard error says which word, has the
-# place, with a mark under it, or the first difference, or says what the store is.
+# Runs a command that ends by itself. If it refuses an argument, a file or a store, standard error says which argument
+# is wrong, shows the place in the file with a mark under it, or says how the store differs or what is wrong with it.
 run_to_end() {
     [ -z "${JAC_PROVED-}" ] || exec "${command[@]}" "$@"
     local status=0

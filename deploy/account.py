@@ -1,12 +1,12 @@
 #!/usr/bin/env python3
-"""The accounts of an application that is served: adds one, changes its password or its viewer, disables it, lists all.
+"""Manages the accounts of an application: adds one, changes its password or its viewer, disables it, or lists all.
 
 A folder has three files of accounts: `users` (names and passwords, for the server in front), `tokens` (the token of
-each name, for the server in front) and `sessions` (the viewer of each token, for jac). `accounts.ini` beside them says
-which commands make jac and the server in front read them again; they are run where a change asks for it.
+each name, for the server in front) and `sessions` (the viewer of each token, for jac). The file `accounts.ini` beside
+them has the commands that make jac and the server in front read these files again. A change runs them if it needs to.
 
 A viewer is the id of a record, `-` for an account that is nobody to jac, or `=TEXT` for the one viewer that has a field
-with this text in the store. A password is the first line of standard input, or is asked for at a terminal."""
+with this text in the store. A password is the first line of standard input. At a terminal the script asks for it."""
 import argparse
 import collections
 import configparser
@@ -25,17 +25,17 @@ import sys
 import tempfile
 
 HERE = os.path.dirname(os.path.realpath(__file__))
-# nginx compares the names of tokens without their case, and gives these words a meaning of their own.
+# nginx ignores the case of names in `tokens`, and gives the words in TAKEN a meaning of its own.
 NAME = re.compile(r'[a-z0-9][a-z0-9._-]{0,63}')
 TAKEN = {'default', 'hostnames', 'include', 'volatile'}
 VIEWER = re.compile(r'[0-9]{1,39}|-')
-# bcrypt takes no more of a password.
+# The most bytes of a password: bcrypt ignores any further ones.
 LONGEST = 72
 LABELS_AT_ONCE = 4000
 
 
 class Refused(Exception):
-    """What whoever asked did wrong, or what failed, in words."""
+    """What the user did wrong, or what failed, in words."""
 
 
 class Settings:
@@ -59,8 +59,8 @@ class Settings:
 
 
 def pairs_of(path, form):
-    """The two parts of each line, by the first; none where the file isn't there. A line of another form is refused,
-    since writing the file again would lose it."""
+    """The two parts of each line of a file, by the first part. Empty if there is no such file. A malformed line is
+    refused, because it would be lost when the file is written again."""
     try:
         with open(path, encoding='utf-8') as file:
             lines = file.read().splitlines()
@@ -103,25 +103,25 @@ class Accounts:
         self.users[name] = line
 
     def disable(self, name):
-        """The name stays, in a comment, and its password is forgotten."""
+        """Keeps the name in a comment, and removes the password."""
         self.users.pop(name, None)
         self.users['#' + name] = ''
 
     def set_viewer(self, name, viewer):
-        """Gives the account a token that nobody had before, or takes its token away."""
+        """Gives the account a new token for this viewer, or removes its token if the viewer is `-`."""
         self.viewers.pop(self.tokens.pop(name, None), None)
         if viewer != '-':
             self.tokens[name] = secrets.token_hex(24)
             self.viewers[self.tokens[name]] = viewer
 
     def write(self, settings):
-        """Puts each file in the place of the one before at once."""
+        """Replaces each of the files atomically."""
         self.put('sessions', ['%s %s' % pair for pair in self.viewers.items()], settings.jac_group)
         self.put('tokens', ['%s %s;' % pair for pair in self.tokens.items()], settings.front_group)
         self.put('users', ['%s:%s' % pair for pair in self.users.items()], settings.front_group)
 
     def put(self, file, lines, group):
-        """Only root, who runs this, gives the file to a group."""
+        """Replaces a file atomically. Sets its group only if root runs the script."""
         path = os.path.join(self.folder, file)
         text = ''.join(line + '\n' for line in lines)
         try:
@@ -164,7 +164,7 @@ def password():
 
 
 def hashed(name, given, cost):
-    """By bcrypt, which both servers take."""
+    """The bcrypt hash of a password. Both nginx and Apache accept it."""
     if not shutil.which('htpasswd'):
         raise Refused('htpasswd isn\'t installed: apt install apache2-utils')
     words = ['htpasswd', '-n', '-i', '-B', '-C', str(cost), name]
@@ -176,7 +176,7 @@ def hashed(name, given, cost):
 
 
 def dumped(settings, store, labels):
-    """The lines of a dump under these labels."""
+    """The lines of a dump with these labels shown."""
     words = [settings.program, 'dump', settings.application, ','.join(map(str, labels)) or '-', '--db', store]
     done = subprocess.run(words, stdin=subprocess.DEVNULL, stdout=subprocess.PIPE, stderr=subprocess.PIPE, text=True)
     if done.returncode:
@@ -198,14 +198,15 @@ def viewer_model(application):
 
 
 def labels_of(store, place, groups):
-    """Each label of a record of this model: the record's number times 8, and the place of the group."""
+    """The labels of all records of this model. A label is the record's id times 8, plus the position of the group."""
     with contextlib.closing(sqlite3.connect('file:%s?mode=ro' % store, uri=True)) as base:
         rows = base.execute('SELECT DISTINCT jid FROM rec WHERE model = ? ORDER BY jid', (place,))
         return [int.from_bytes(row[0], 'big') * 8 + group for row in rows for group in range(groups)]
 
 
 def found(settings, text):
-    """The ids of viewers of which a text field is this text, as shown or as guarded, over a copy of the store."""
+    """The viewers that have a text field with this text, guarded or as everybody sees it: their ids, each with the line
+    of a dump. Reads a copy of the store."""
     model, place, groups = viewer_model(settings.application)
     spelled = text.replace('\\', '\\\\').replace('"', '\\"')
     record, ids = re.compile(r'%s (\d+) ' % model), collections.OrderedDict()
@@ -239,7 +240,7 @@ def checked_viewer(settings, word):
 
 
 def run(name, command):
-    """Runs a command of accounts.ini; an empty one is none."""
+    """Runs a command of accounts.ini, unless it is empty."""
     words = shlex.split(command)
     if words:
         try:
@@ -252,7 +253,7 @@ def run(name, command):
 
 
 def reload_all(settings):
-    """jac reads its sessions first, so that no token comes to it that it doesn't know."""
+    """Makes jac read its sessions first, so that it never gets a token that it doesn't know."""
     run('restart jac', settings.restart_jac)
     run('reload front', settings.reload_front)
 
@@ -307,16 +308,17 @@ def reload(accounts, settings, words):
 
 def parser():
     made = argparse.ArgumentParser(description=__doc__.split('\n')[0], epilog=__doc__.split('\n\n')[-1])
-    made.add_argument('folder', help='where users, tokens, sessions and accounts.ini are, as /etc/jac')
+    made.add_argument('folder',
+                      help='the folder with users, tokens, sessions and accounts.ini, such as /etc/jac/calendar')
     commands = made.add_subparsers(dest='command', required=True, metavar='COMMAND')
     for word, what, does, takes in (
             ('add', 'adds an account, with its password', add, ('name', 'viewer')),
-            ('password', 'gives an account another password, also one that is disabled, which is active again',
+            ('password', 'changes the password of an account, and activates the account if it is disabled',
              change_password, ('name',)),
-            ('viewer', 'says anew who an account is', change_viewer, ('name', 'viewer')),
-            ('disable', 'ends an account\'s logins at once, and lets nobody in by it', disable, ('name',)),
-            ('list', 'puts each account: its name, its viewer, and whether it is active', show, ()),
-            ('find', 'puts the viewers that have a field with this text in the store', find, ('text',)),
+            ('viewer', 'changes the viewer of an account', change_viewer, ('name', 'viewer')),
+            ('disable', 'ends an account\'s logins at once, and allows no new ones', disable, ('name',)),
+            ('list', 'prints each account: its name, its viewer, and whether it is active', show, ()),
+            ('find', 'prints the viewers that have a field with this text in the store', find, ('text',)),
             ('reload', 'runs both commands of accounts.ini', reload, ())):
         command = commands.add_parser(word, help=what)
         command.set_defaults(does=does)

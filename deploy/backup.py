@@ -1,9 +1,10 @@
 #!/usr/bin/env python3
 """Copies a store while jac serves it, and tests the copy.
 
-jac has the database locked, so that no program reads it through SQLite meanwhile; but its file changes only now and
-then, and what it commits goes behind the end of the log beside it. So both are copied, and again where either was begun
-anew meanwhile; SQLite then takes from the copied log what was whole, and makes one file of both."""
+jac keeps the database locked, so no other program can read it through SQLite. But jac rarely writes the database's
+file. It appends each commit to the log beside the file. So this script copies the file and the log. If the file was
+written or the log was restarted meanwhile, it copies both again. Then SQLite takes the complete commits from the copied
+log, and makes one file of both copies."""
 import argparse
 import os
 import shutil
@@ -13,11 +14,11 @@ import tempfile
 import time
 
 TRIES = 100
-STILL = 0.1     # seconds: a file that was written a moment ago may be written again with the same time
+STILL = 0.1     # seconds; a file that was just written may be written again with the same time
 
 
 def marks(store):
-    """What changes where the file is written, or its log is begun anew: jac only appends to the log otherwise."""
+    """A value that changes if the file is written or its log is restarted. Otherwise jac only appends to the log."""
     found = os.stat(store)
     head = b''
     if os.path.exists(store + '-wal'):
@@ -27,7 +28,7 @@ def marks(store):
 
 
 def copy_both(store, copy):
-    """Whether the copies belong together."""
+    """Copies the file and the log, and returns whether the copies belong together."""
     before = marks(store)
     if time.time_ns() - before[0] < STILL * 1e9:
         time.sleep(STILL)
@@ -39,7 +40,7 @@ def copy_both(store, copy):
 
 
 def join(copy, target):
-    """Makes one database of a file and its log, and tests it."""
+    """Makes one database of a file and its log, and returns whether it is intact."""
     source, made = sqlite3.connect(copy), sqlite3.connect(target)
     with made:
         source.backup(made)
@@ -53,7 +54,7 @@ def join(copy, target):
 def main():
     words = argparse.ArgumentParser(description=__doc__, formatter_class=argparse.RawDescriptionHelpFormatter)
     words.add_argument('store', help="the store's file")
-    words.add_argument('target', help="the file for the copy, which isn't there yet")
+    words.add_argument('target', help="the file for the copy, which mustn't exist yet")
     words = words.parse_args()
     store, target = words.store, words.target
     if not os.path.exists(store):

@@ -1,10 +1,11 @@
 #!/usr/bin/env python3
-"""Says in the service's journal why jac ended, in words: which part of the application differs from the store and whether
-an upgrade brings it there, which word of the sessions has no form, what the matter is with a store that was refused.
+"""Explains in the service's journal why jac ended: which part of the application differs from the store and whether an
+upgrade can convert the store, which word of the sessions is malformed, or what is wrong with a store that was refused.
 
-Words: those of the unit's ExecStart. It is for ExecStopPost, and takes from systemd's environment how the run ended. It
-says nothing of an end by a signal or without a fault, says the same at most once a minute, and changes nothing but the
-file in RUNTIME_DIRECTORY by which it knows. It needs the folder tools beside it, or that of a clone."""
+A unit runs this script as ExecStopPost, with the arguments of its ExecStart. systemd's environment variables say how
+jac ended. The script prints nothing if a signal ended jac or if there was no fault. It prints the same explanation at
+most once a minute. It changes only a file in RUNTIME_DIRECTORY, where it notes what it explained. It needs the folder
+`tools`, beside the script or in a clone."""
 import os
 import subprocess
 import sys
@@ -13,11 +14,11 @@ import time
 HERE = os.path.dirname(os.path.realpath(__file__))
 FAULT_PLACE = [path for path in (os.path.join(HERE, 'tools', 'fault_place.py'), os.path.join(os.path.dirname(HERE), 'tools',
                                                                                   'fault_place.py')) if os.path.exists(path)]
-AGAIN = 60      # seconds until the same is said once more
+AGAIN = 60      # seconds until the same explanation is printed again
 
 
 def is_new(status):
-    """Whether this status wasn't explained within the last minute; from now on it was."""
+    """Whether this status wasn't explained within the last minute. Notes that it is explained now."""
     folder = os.environ.get('RUNTIME_DIRECTORY')
     if not folder:
         return True

@@ -1,9 +1,9 @@
 #!/usr/bin/env python3
-"""A warm standby: copies a store that is served to another machine, restores it there, and tries whether that works.
+"""A warm standby: copies a served store to another machine, restores it there, and tests whether that works.
 
-`copy` is for a timer. It copies the store by backup.py and puts it, under a name with its time, into a folder of this
-machine or, written HOST:FOLDER, of another one that ssh reaches. `drill` and `restore` are for the machine that has the
-folder, and take its newest copy."""
+A timer runs `copy`. It copies the store with backup.py into a folder, under a name with the time. The folder is on this
+machine, or (as HOST:FOLDER) on another one, by ssh. `drill` and `restore` run on the machine with the folder, and use
+the newest copy in it."""
 import argparse
 import contextlib
 import datetime
@@ -20,7 +20,7 @@ import time
 
 HERE = os.path.dirname(os.path.realpath(__file__))
 FORM = 'store-%Y-%m-%dT%H-%M-%S.%fZ.db'
-# Puts what comes in under its name once its sum is right, and removes all but the newest copies.
+# Stores standard input under the copy's name if its checksum is right, and removes all but the newest copies.
 TAKE = '''set -e
 cd %(folder)s
 trap 'rm -f .%(name)s' EXIT
@@ -72,7 +72,7 @@ def newest(folder):
 
 
 def test(path):
-    """Has SQLite test the whole file."""
+    """Tests the whole file with SQLite. Raises `Refused` if it is damaged."""
     with contextlib.closing(sqlite3.connect('file:%s?mode=ro' % path, uri=True)) as base:
         try:
             told = base.execute('PRAGMA integrity_check').fetchall()
@@ -83,7 +83,7 @@ def test(path):
 
 
 def drill(words):
-    """What `restore` does, into a folder that is removed, and then the program reads the store."""
+    """Restores the newest copy into a temporary folder, and has the program read it."""
     path, age = newest(words.folder)
     begun = time.monotonic()
     with tempfile.TemporaryDirectory() as room:
@@ -102,18 +102,18 @@ def drill(words):
 
 
 def free(store):
-    """Refuses a store that is served: the program that serves it has it locked."""
+    """Raises `Refused` if the store is served, because then the program keeps it locked."""
     with contextlib.closing(sqlite3.connect('file:%s?mode=rw' % store, uri=True, timeout=0)) as base:
         try:
             base.execute('BEGIN EXCLUSIVE')
         except sqlite3.OperationalError as error:
             raise Refused('%s is in use: stop jac first (%s)' % (store, error)) from error
         except sqlite3.DatabaseError:
-            pass        # it is damaged, so it is put aside
+            pass        # it is damaged, so it is moved aside
 
 
 def restore(words):
-    """Puts the newest copy where the store is, and what was there beside it."""
+    """Puts the newest copy in place of the store. The old store is kept beside it, under another name."""
     path, age = newest(words.folder)
     test(path)
     aside = '%s.before-%s' % (words.store, now().strftime('%Y-%m-%dT%H-%M-%SZ'))
@@ -143,15 +143,16 @@ def parser():
     one = commands.add_parser('copy', help='copies a store that may be served')
     one.add_argument('store')
     one.add_argument('place', help='FOLDER, or HOST:FOLDER by ssh')
-    one.add_argument('--keep', type=int, default=48, help='how many copies stay (%(default)s)')
+    one.add_argument('--keep', type=int, default=48, help='how many copies are kept (default: %(default)s)')
     one.set_defaults(does=copy)
-    one = commands.add_parser('drill', help='tries whether the newest copy can be restored, and changes nothing')
+    one = commands.add_parser('drill', help='tests whether the newest copy can be restored, and changes nothing')
     one.add_argument('folder')
     one.add_argument('application')
     one.add_argument('--program', default='/usr/local/bin/jac')
-    one.add_argument('--older', type=int, default=3600, help='how many seconds old it may be (%(default)s)')
+    one.add_argument('--older', type=int, default=3600,
+                     help='how many seconds old the newest copy may be (default: %(default)s)')
     one.set_defaults(does=drill)
-    one = commands.add_parser('restore', help='puts the newest copy where the store is, with jac stopped')
+    one = commands.add_parser('restore', help='replaces the store by the newest copy; stop jac first')
     one.add_argument('folder')
     one.add_argument('store')
     one.set_defaults(does=restore)

@@ -1,12 +1,14 @@
 #!/usr/bin/env python3
-"""Writes one page of HTML that shows who sees what of a store: a row for each guarded group of a record, a column for
-each viewer, and in each cell whether it is shown; where it isn't, the number of the reason, and below the table the
-reasons, each with the policy and its place. It works on a copy of the store, so the store may be served meanwhile.
+"""Writes an HTML page that shows who sees what of a store.
 
     python3 tools/access_matrix.py APP --db FILE --sessions SESSIONS --output page.html
 
-The page is for who runs the program: it names records of which a viewer isn't to know. Of what is guarded it has no
-value; a record is named by its first text that no group guards, where the record is hidden from nobody."""
+The page has a table, with a row for each guarded group of a record and a column for each viewer. A cell says whether
+the viewer is shown what the group guards. If not, the cell has the number of a reason. The reasons are listed below the
+table, each with the policy and its place. The script works on a copy, so the store may be served meanwhile.
+
+The page is for the operator, because it names records that a viewer must not know about. It contains no guarded value.
+If everybody sees a record, the record is named by its first text that no group guards."""
 import argparse
 import html
 import os
@@ -25,8 +27,8 @@ import fault_place                                                          # no
 import hidden                                                               # noqa: E402
 import store_copies                                                         # noqa: E402
 
-EVERY = 20          # seconds between two lines that tell how far it is
-WIDE = 30           # characters of a record's name
+EVERY = 20          # seconds between two progress lines
+WIDE = 30           # the most characters of a record's name
 
 STYLE = '''
 * { box-sizing: border-box }
@@ -61,7 +63,8 @@ tr.off, .one td:not(.on), .one thead th:not(.on):not(:first-child) { display: no
 @media (max-width: 40em) { body { padding: 0 .5rem .5rem; font-size: 13px }
   tr > th:first-child { width: 9rem; min-width: 9rem; max-width: 9rem } .room { max-height: 70vh } }
 '''
-# What chooses rows and a column, and tells a cell's reason; without it the table and its reasons are as they are.
+# Filters rows and columns, and shows a cell's reason. Without this script the page shows the whole table and all
+# reasons.
 SCRIPT = '''
 const table = document.querySelector("table"), told = document.querySelector(".told");
 const [rows, column, state] = document.querySelectorAll(".choice input, .choice select");
@@ -135,18 +138,18 @@ def escaped(text):
 
 
 class Store:
-    """A copy of a store, the file of the application's text, and the program that is asked of them."""
+    """A copy of a store, the file with the application's text, and the program that reads them."""
 
     def __init__(self, program, app, text, copy):
         self.program, self.app, self.text, self.copy = program, app, text, copy
 
     def why(self, viewer):
-        """The labels that the viewer is shown, and for each other one what hides it, in words."""
+        """The labels that the viewer is shown, and for each other label the reason in words."""
         shown, reasons = hidden.why(self.program, self.text, self.app, viewer, self.copy)
         return set(shown), reasons
 
     def names(self, guarded):
-        """The first text of each record that stands for everybody, of the fields that no group guards."""
+        """For each record that everybody sees: its model, and its first unguarded text that isn't empty."""
         found = {}
         for line in hidden.asked(self.program, 'dump', self.text, '-', self.copy)[:-1]:
             model, number, *_ = line.split(' ', 2)
@@ -157,7 +160,7 @@ class Store:
 
 
 def plain(text):
-    """A text of a dump as it is."""
+    """A text of a dump without its escapes, shortened to WIDE characters."""
     def byte(found):
         word = found.group(1)
         return {'n': b' ', 'r': b' ', 't': b' '}.get(word) or (bytes([int(word[1:],
@@ -170,14 +173,15 @@ def plain(text):
 
 
 class Column:
-    """A viewer: how they are called, and what they are shown."""
+    """A viewer: a short and a long name, the labels that are shown, and the reasons for the other labels."""
 
     def __init__(self, head, title, shown, hidden):
         self.head, self.title, self.shown, self.hidden = head, title, shown, hidden
 
 
 def viewers_of(options, names, known, model):
-    """Pairs of a viewer's word and what to call them: of the sessions, or as they were named, or all that there are."""
+    """Each viewer as in --viewers, with a short and a long name. The viewers are those of --viewers, or those of the
+    sessions, or the records of the viewer's model that everybody sees. Nobody is always one of them."""
     found = {}
     if options.viewers:
         found = {viewer: '' for viewer in options.viewers}
@@ -209,7 +213,7 @@ def columns_of(options, store, names, known, model):
 
 
 def row_of(label, names, known):
-    """What a row is called: the record, its name where it has one, and what of it is guarded."""
+    """The header of a row: the record, with its name if it has one, and what the group guards."""
     number = label // 8
     own = known.get(number, ('', ''))[1]
     return '%s%s' % (names.name(number), ' “%s”' % own if own else ''), names.label(label)[1]
@@ -224,7 +228,7 @@ def cell(column, label, reasons):
 
 
 def bodies(names, known, columns, labels, reasons):
-    """The rows, those of each model together."""
+    """The rows of the table, grouped by model."""
     made, last = [], None
     for label in sorted(labels, key=lambda label: (label // 8 % 64, label // 8, label % 8)):
         model = label // 8 % 64
@@ -258,14 +262,14 @@ def page(options, names, known, columns):
 
 
 def made(options, room):
-    """The page of a copy of the store."""
+    """The page, made from a copy of the store."""
     copy = os.path.join(room, 'copy.db')
     store_copies.copy_served(options.db, copy)
     data, text = application.read(options.app), os.path.join(room, 'text')
     with open(text, 'wb') as file:
         file.write(data)
     store = Store(options.program, options.app, text, copy)
-    hidden.asked(options.program, 'dump', text, '-', copy)  # says what is wrong with the application or the store
+    hidden.asked(options.program, 'dump', text, '-', copy)  # fails if the application or the store is wrong
     names, checker = audit.Names(data), fault_place.Checker(fault_place.read_tree(data, list(range(len(data) + 1))))
     guarded = {model.children[1].value: {guard.children[0].value for group in fault_place.groups_in(model)
                                          for guard in fault_place.guards_in(group)} for model in checker.models}
@@ -286,12 +290,13 @@ def options_of(words):
                                      formatter_class=argparse.RawDescriptionHelpFormatter)
     parser.add_argument('app', metavar='APP', help='the application')
     parser.add_argument('--db', metavar='FILE', required=True, help='its store')
-    parser.add_argument('--sessions', metavar='FILE', help='whose viewers have a column, each by the name of a token')
+    parser.add_argument('--sessions', metavar='FILE', help='the sessions; each viewer has a column, named by a token')
     parser.add_argument('--viewers', metavar='V,V', type=viewers_option,
-                        help='the viewers that have a column; without it and without sessions all that there are')
-    parser.add_argument('--output', metavar='FILE', help='where the page goes, instead of standard output')
+                        help='the viewers that have a column; without this option and --sessions, those whose records '
+                        'everybody sees')
+    parser.add_argument('--output', metavar='FILE', help='the file for the page, instead of standard output')
     parser.add_argument('--program', metavar='FILE', default=os.path.join(TOP, 'jac'),
-                        help='the program, instead of ./jac')
+                        help='the program to run, instead of ./jac')
     return parser.parse_args(words)
 
 

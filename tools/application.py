@@ -8,7 +8,7 @@ import assemble                                                             # no
 
 
 class Fault(Exception):
-    """Why there is no text: a line for each thing that there is to say."""
+    """The reason why there is no text, in one or more lines."""
 
 
 def read(path):

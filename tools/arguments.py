@@ -1,10 +1,10 @@
-"""How a script takes its words: by argparse, with its docstring as the description. `--help` begins nothing, and a flag
-that isn't known is refused with status 2."""
+"""Makes the argument parser of a script. The script's docstring is its description. `--help` only prints help. An
+unknown flag ends the script with exit status 2."""
 import argparse
 import sys
 
 
 def script_parser(prog=None):
-    """A parser for the script that runs, without any words yet."""
+    """A parser for the running script, without any arguments yet."""
     return argparse.ArgumentParser(prog=prog, description=sys.modules['__main__'].__doc__, allow_abbrev=False,
                                    formatter_class=argparse.RawDescriptionHelpFormatter)

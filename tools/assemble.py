@@ -1,17 +1,17 @@
 #!/usr/bin/env python3
-"""Puts the text of an application together from a folder, and writes it to standard output.
+"""Joins the parts of an application's folder to one text, and writes the text to standard output.
 
-A folder has `main` (or `app`, where it has no `main`), which is the application's text, and `pages`, which has its HTML
-files. Jinja2 puts them together, with delimiters that leave those of a template alone:
+The folder has the application's text in `main` (or in `app`, if there is no `main`), and its HTML files in `pages`.
+Jinja2 joins them. Its delimiters differ from those of the language's templates:
 
     [% extends "layout.html" %]    a block of Jinja2: extends, block, include, import, macro, set, if, for, raw
     [[ title ]]                    a value
-    [# comment #]                  a comment, which is in no page
-    [[ page("list.html") ]]        in `main`: the template that this file is; more words are the file's values,
-                                   as in [[ page("list.html", title="People") ]]
+    [# comment #]                  a comment, which is removed
+    [[ page("list.html") ]]        in `main`: a template with the content of this file; further arguments are the file's
+                                   values, as in [[ page("list.html", title="People") ]]
 
-The exit status is 0, or 65 where Jinja2 finds a fault, whose file and line are on standard error, or 69 where Jinja2 is
-not installed. Other scripts use `read`, which takes a file or a folder."""
+The exit status is 65 if Jinja2 finds a fault (standard error has its file and line), 69 if Jinja2 isn't installed, and
+otherwise 0. Other scripts call `read`, which takes a file or a folder."""
 import argparse
 import bisect
 import os
@@ -25,7 +25,7 @@ MARK = re.compile('\0([0-9]+)(p?)\0')
 
 
 class Fault(Exception):
-    """Why a folder can't be put together: the line that says it, with its place, and the exit status."""
+    """The reason why a folder can't be joined: a message with its place, and the exit status."""
 
     def __init__(self, words, status=FAULT):
         super().__init__(words)
@@ -33,7 +33,7 @@ class Fault(Exception):
 
 
 class Application(bytes):
-    """The text of an application that was put together of parts, with the place of each byte in its part."""
+    """The text of an application that was joined from parts, with the place of each byte in its part."""
 
     def __new__(cls, data, pieces):
         text = super().__new__(cls, data)
@@ -42,12 +42,12 @@ class Application(bytes):
         return text
 
     def piece(self, at):
-        """The piece of a part that a byte of the text is of, or None where that isn't known."""
+        """The piece that a byte of the text comes from, or None if it isn't known."""
         found = bisect.bisect_right(self.starts, at) - 1
         return self.pieces[found] if found >= 0 else None
 
     def place(self, at):
-        """The file, the line and the column of a byte of the text, or None where they aren't known."""
+        """The file, the line and the column of a byte of the text, or None if they aren't known."""
         piece = self.piece(at)
         if piece is None:
             return None
@@ -57,7 +57,7 @@ class Application(bytes):
 
 
 class Piece:
-    """Bytes of a text, from `start`, that come from one line of a part."""
+    """The bytes of a text, from `start` on, that come from one line of a part."""
 
     def __init__(self, path, line, column, is_value):
         self.path, self.line, self.column, self.is_value = path, line, column, is_value
@@ -70,13 +70,13 @@ class Piece:
 
 
 def main_part(path):
-    """The name of the main part of a folder, or None where the path is no folder of an application."""
+    """The name of the main part of a folder, or None if the path isn't the folder of an application."""
     names = [name for name in ('main', 'app') if os.path.isfile(os.path.join(path, name))]
     return names[0] if os.path.isdir(path) and names else None
 
 
 def read(path):
-    """The text of the application in a file or a folder; `Fault` where the folder can't be put together."""
+    """The text of the application in a file or a folder. Raises `Fault` if the folder can't be joined."""
     if main_part(path):
         return assembled(path)
     with open(path, 'rb') as file:
@@ -84,7 +84,7 @@ def read(path):
 
 
 def read_or_exit(path):
-    """The same for a script: a fault is said on standard error and ends it."""
+    """The same for a script. A fault is printed on standard error, and ends the script."""
     try:
         return read(path)
     except Fault as fault:
@@ -93,8 +93,8 @@ def read_or_exit(path):
 
 
 def path_of(data):
-    """A path by which this process and those that it starts read the text. The file has no name of its own, and ends
-    with the last of them."""
+    """A path by which this process and its child processes read the text. The file has no name of its own, and is gone
+    after the last of these processes ends."""
     number = os.memfd_create('application', 0)
     with open(number, 'wb', closefd=False) as file:
         file.write(data)
@@ -102,7 +102,7 @@ def path_of(data):
 
 
 def with_debian(name):
-    """Imports a module that Debian may have installed for its own Python alone."""
+    """Imports a module that may be installed only for Debian's own Python."""
     try:
         return __import__(name)
     except ImportError:
@@ -125,13 +125,13 @@ def jinja(folder):
 
 
 def quoted(text):
-    """The statement of the template that this is the text of."""
+    """The template statement with this text."""
     text = text.replace('\\', '\\\\').replace('"', '\\"')
     return '(template "%s")' % MARK.sub('\0\\1p\0', text)
 
 
 def environment(jinja2, folder, extensions):
-    """Jinja2 with the delimiters of a folder. Its sandbox lets a folder that came from elsewhere run nothing."""
+    """Jinja2 with the delimiters of a folder, in a sandbox, so that an untrusted folder can't run code."""
     parts = jinja2.sandbox.SandboxedEnvironment(
         loader=loader(jinja2, [os.path.join(folder, 'pages'), folder]), undefined=jinja2.StrictUndefined,
         block_start_string='[%', block_end_string='%]', variable_start_string='[[', variable_end_string=']]',
@@ -154,7 +154,7 @@ def loader(jinja2, folders):
 
 
 def marking(jinja2, pieces):
-    """The extension that puts a mark before each piece of a part, with its number among the pieces."""
+    """The Jinja2 extension that puts a mark with the piece's number before each piece of a part."""
     token_type = jinja2.lexer.Token
 
     class Marking(jinja2.ext.Extension):
@@ -167,7 +167,7 @@ def marking(jinja2, pieces):
             return '\0%d\0' % (len(pieces) - 1)
 
         def column(self, line, sign):
-            """Where the sign is in its line, after what was found there before."""
+            """The column of the sign in its line. The search begins after the last sign that was found in this line."""
             text = self.lines[line - 1] if line <= len(self.lines) else ''
             found = text.find(sign, self.used.get(line, 0))
             self.used[line] = found + len(sign) if found >= 0 else self.used.get(line, 0)
@@ -197,7 +197,7 @@ def rendered(jinja2, folder, name, pieces=None):
 
 
 def unmarked(text, pieces):
-    """The text without its marks, and the pieces where they are in it."""
+    """The text without its marks, and the pieces with their places in it."""
     data, placed, at = bytearray(), [], 0
     for found in MARK.finditer(text):
         data += text[at:found.start()].encode()
@@ -207,8 +207,8 @@ def unmarked(text, pieces):
 
 
 def assembled(folder):
-    """The text that the folder is put together to. Where marks would change it, as where a part takes the length of a
-    macro's text, no places are known."""
+    """The text that the folder is joined to. Its places are unknown if marks would change the text, for example because
+    a part uses the length of a macro's text."""
     jinja2, name = jinja(folder), main_part(folder)
     try:
         data, pieces = rendered(jinja2, folder, name).encode(), []
@@ -221,7 +221,7 @@ def assembled(folder):
 
 
 def fault_words(jinja2, folder, name, error):
-    """The file and line of a fault of Jinja2, what it says, and the line's text."""
+    """The message of a fault of Jinja2, with its file and line and the text of this line."""
     if isinstance(error, jinja2.TemplateSyntaxError):
         path, line, words = error.filename or os.path.join(folder, error.name or name), error.lineno, error.message
     else:
@@ -259,7 +259,7 @@ def main():
     parser = argparse.ArgumentParser(description=__doc__, formatter_class=argparse.RawDescriptionHelpFormatter)
     parser.add_argument('folder', metavar='FOLDER', help='the folder of the application')
     parser.add_argument('--map', metavar='FILE', help='write for each line of the text its number, and the file and '
-                        'the line of the part that it begins with')
+                        'the line of the part that its first byte comes from')
     words = parser.parse_args()
     if not main_part(words.folder):
         sys.exit('assemble: %s is no folder that has a file main or app' % words.folder)

@@ -1,12 +1,13 @@
 #!/usr/bin/env python3
-"""Tells the lines of an audit in words: who asked, what was answered, and which guarded fields of which records are
-shown to the viewer as they are, or which hidden records stand for the viewer.
-Words: the application's file or folder, the audit's file, and, where there is one, the file of the events that were answered,
-whose `ask` lines tell which view was asked.
+"""Prints the lines of an audit in words: who made the request, the reply's status, and which guarded fields or hidden
+records were shown to the viewer.
 
-A line is `K STATUS VIEWER SHOWN`: the number of the reply, its status, the record of the viewer or `-`, and the labels
-under which the page was made. A label is that of a group of a record, whose fields read as they are wherever the page
-read them; what has no label there read as its public value."""
+Arguments: the application's file or folder, the audit, and optionally the events that were answered. If all events are
+`ask` lines, the method and path of each request are printed too.
+
+A line of an audit is `K STATUS VIEWER SHOWN`: the number of the reply, its status, the viewer's record or `-`, and the
+labels that were shown. A label belongs to a group of a record. If the label is in the line, the page used the actual
+values of the group's fields. If it isn't, the page used their public values."""
 import os
 import re
 import signal
@@ -19,12 +20,12 @@ import assemble                                                             # no
 import fault_place                                                          # noqa: E402
 
 
-# a record that was made in a loop has the number of the loop's record times this before its own
+# the id of a record made in a loop is its own number, plus this times the id of the loop's record
 LOOP = 2 ** 52
 
 
 class Names:
-    """What the numbers of an application mean."""
+    """The meaning of the numbers of records and labels in an application."""
 
     def __init__(self, data):
         checker = fault_place.Checker(fault_place.read_tree(data, list(range(len(data) + 1))))
@@ -55,7 +56,7 @@ class Names:
 
 
 def asked(path):
-    """What each reply of a run of `ask` lines was asked, by its number; none where connections stand among them."""
+    """The method and path of each request, by the number of its reply. Empty if an event isn't an `ask` line."""
     with open(path, encoding='utf-8', errors='replace') as file:
         lines = [line for line in file.read().split('\n') if line]
     asks = [re.fullmatch(r'ask \S+ ([A-Z]+) "([^"]*)" ".*"', line) for line in lines]

@@ -1,10 +1,12 @@
 #!/usr/bin/env python3
-"""Proves and builds a program: each crate after those that it stands on, as many side by side as processors and memory
-allow, and first those behind which the longest chain waits (`schedule.py`). Words: the program's crate. Tells on
-standard error every 20 seconds which crates are done and under way, the minutes gone, and those that are thought to be
-left: by what crates took in earlier runs in this clone, which `out/measured.json` keeps, and for others by the table of
-costs in docs/TESTING.md, times what crates took here beyond it. Where one fails, its log follows, and the status is
-70."""
+"""Proves and builds a program.
+
+A crate is proved after the crates that it uses. As many crates are proved in parallel as processors and memory allow.
+Those for which the longest chain of other crates waits are proved first (`schedule.py`). Every 20 seconds a line on
+standard error says which crates are done and which are being proved, how many minutes have passed, and how many are
+expected to be left. The estimate uses the times of earlier runs in this clone (`out/measured.json`). For other crates
+it uses the table of costs in docs/TESTING.md, scaled by how much longer crates took here. If a proof fails, its log is
+printed, and the exit status is 70."""
 import json
 import os
 import signal
@@ -21,13 +23,13 @@ from crates import PROGRAM, TOP, below, files, folder                       # no
 from program import PROVED, State, is_current                               # noqa: E402
 from schedule import Schedule, Task                                         # noqa: E402
 
-EVERY = 20      # seconds after which a line is due where no crate began or ended
+EVERY = 20      # seconds until the next progress line, if no crate begins or ends
 STEP = '--step'
 MEASURED = os.path.join(TOP, 'out', 'measured.json')
 
 
 class Stopped(SystemExit):
-    """A signal that ends this."""
+    """A signal ends this script."""
 
     def __init__(self, number):
         super().__init__(128 + number)
@@ -39,8 +41,8 @@ def tell(text):
 
 
 def step(words):
-    """Runs `rt` on these words in the crate's folder, beside others that stand on the same crates. This is a process of
-    its own."""
+    """Runs `rt` with these arguments in the current folder, which is the crate's. This function runs in a process of
+    its own, in parallel with others that use the same lower crates."""
     rt = kit.load()
     kit.remember_stamps(rt.rtlib, os.getcwd())
     kit.share_below(rt.rtlib)
@@ -48,7 +50,7 @@ def step(words):
 
 
 class Proof:
-    """The proof of one crate, under way."""
+    """The running proof of one crate."""
 
     def __init__(self, name, is_program, jobs):
         self.name = name
@@ -62,7 +64,7 @@ class Proof:
         return self.process.poll()
 
     def failed(self):
-        # the program was run with no words, so its own status says nothing
+        # `rt run` also runs the program, without arguments, so the exit status says nothing about the proof
         if self.program:
             return not os.access(self.program, os.X_OK)
         return self.process.returncode != 0
@@ -83,7 +85,7 @@ class Proof:
 
 
 def is_kept(name, names):
-    """Whether the crate's library seems to be built of its text and of those below; it is `rt lib` that decides."""
+    """Whether the crate's library seems newer than its sources and those of its lower crates. `rt lib` decides."""
     try:
         built = os.stat(os.path.join(folder(name), 'out', 'rlib', 'stamp')).st_mtime
     except OSError:
@@ -92,7 +94,7 @@ def is_kept(name, names):
 
 
 def measured():
-    """The minutes of one processor that crates took here, by name."""
+    """The processor minutes that crates took in this clone, by name."""
     try:
         with open(MEASURED, encoding='utf-8') as file:
             return {name: float(minutes) for name, minutes in json.load(file).items()}
@@ -101,7 +103,7 @@ def measured():
 
 
 def remember(runs):
-    """Keeps what these proofs took."""
+    """Stores how long these proofs took."""
     took = {run.task.name: round(run.work(), 2) for run in runs if run.minutes() > 0.1 and not run.run.failed()}
     if took:
         os.makedirs(os.path.dirname(MEASURED), exist_ok=True)
@@ -111,7 +113,8 @@ def remember(runs):
 
 
 def minutes_thought(thought, took):
-    """The minutes of each crate: what it took here, or what the table says times what others took here beyond it."""
+    """The expected minutes of each crate: those that it took here, or else those of the table, scaled by how much
+    longer other crates took here."""
     known = [name for name in thought if name in took]
     table = sum(thought[name].proof for name in known)
     ratio = sum(took[name] for name in known) / table if table > 1 else 1
@@ -119,7 +122,7 @@ def minutes_thought(thought, took):
 
 
 def tasks_for(program):
-    """A task for each crate that the program stands on, and for the program."""
+    """A task for each lower crate of the program, and one for the program."""
     every = below(program)
     thought = costs(every)
     expected = minutes_thought(thought, measured())
@@ -146,7 +149,7 @@ def state_of(schedule):
 
 
 def prove(schedule):
-    """Runs the tasks, and returns whether all went well."""
+    """Runs the tasks, and returns whether all succeeded."""
     told = time.monotonic()
     while not schedule.is_over():
         began = schedule.begin()
@@ -175,7 +178,7 @@ def stop(schedule):
 
 
 def prove_or_stop(schedule):
-    """Runs the tasks to their end, or until a signal comes, and says what is kept then."""
+    """Runs the tasks until they end or a signal arrives. After a signal, prints which proofs are kept."""
     try:
         return prove(schedule)
     except Stopped as stopped:
@@ -188,7 +191,7 @@ def prove_or_stop(schedule):
 
 
 def build(program):
-    """Proves and builds the program, and writes down what it was built of, where that is the one that `jac` runs."""
+    """Proves and builds the program. If `jac` runs this program, records the sources that it was built from."""
     if program == PROGRAM and is_current(PROVED):
         tell('the program stands, proved and built of these sources')
         return 0
@@ -214,14 +217,14 @@ def stop_by(number, _):
 def main():
     parser = script_parser('./prove')
     parser.add_argument('crate', metavar='CRATE', nargs='?', default=PROGRAM,
-                        help='the crate of the program (%(default)s)')
+                        help="the program's crate (default: %(default)s)")
     return build(parser.parse_args().crate)
 
 
 if __name__ == '__main__':
     if sys.argv[1:2] == [STEP]:
         sys.exit(step(sys.argv[2:]))
-    # so that the proofs that are under way end with it
+    # so that running proofs end with this script
     for number in signal.SIGTERM, signal.SIGHUP, signal.SIGINT:
         signal.signal(number, stop_by)
     sys.exit(main())

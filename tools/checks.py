@@ -1,8 +1,9 @@
 #!/usr/bin/env python3
-"""Runs the checks of the program from outside, several at once, and those that measure time one after another. They
-take the proved program of these sources where it is built, or else the trial, which is built first. With JAC_PROVED in
-the environment there has to be the proved one. A line says how each check ended, and the last line how many passed,
-failed and were skipped, whole or in part, because a program isn't installed. The status is 1 where one failed."""
+"""Runs the checks, which test the program from outside. Several run in parallel. Those that measure time run one after
+another. They test the proved program if it was built from these sources, or else the trial, which is built first. If
+JAC_PROVED is set, the trial isn't used. A line says how each check ended. The last line counts the checks that passed
+and failed, and those that were skipped, fully or in part, because a program isn't installed. The exit status is 1 if a
+check failed, and 70 if there is no program to test."""
 import argparse
 import collections
 import os
@@ -28,7 +29,7 @@ TAIL = 40                           # lines of a failed check that are printed
 COUNT = re.compile(r'(?m)^(\d+) passed, (\d+) failed(?:, (\d+) skipped)?$')
 PART = re.compile(r'(?im)^skipped[:,]? (.*)$')
 MOST_SHARE = 4                      # how much longer a check may take on a busy machine
-FAULT = 70                          # the status where there is no program to check
+FAULT = 70                          # the exit status if there is no program to test
 
 Check = collections.namedtuple('Check', 'name words needs seconds alone about')     # a line of the list
 
@@ -38,7 +39,7 @@ def tell(text):
 
 
 def read_line(line):
-    """The check of a line of the list."""
+    """The check that a line of the list describes."""
     cells = [cell.strip() for cell in line.split('|')]
     name, words, needs, seconds, alone, about = cells
     needs = [tuple(need.strip().split('/')) for need in needs.split(',') if need]
@@ -75,7 +76,7 @@ def build_trial():
 
 
 def choose():
-    """The word for the program, or nothing where there is none to check. It says which program it takes."""
+    """The program to test, or None if there is none. Prints which program it is."""
     if is_current(PROVED):
         tell('the proved program of these sources')
         return './jac'
@@ -88,7 +89,7 @@ def choose():
 
 
 class Run:
-    """A check under way, in a process group and a folder for temporary files of its own."""
+    """A running check, with its own process group and its own temporary directory."""
 
     def __init__(self, check, program, room):
         self.check, self.began, self.seconds, self.late = check, time.monotonic(), 0, False
@@ -105,7 +106,7 @@ class Run:
             stdin=subprocess.DEVNULL, stdout=self.log, stderr=subprocess.STDOUT, preexec_fn=os.setpgrp)
 
     def most(self):
-        """The seconds after which it is taken for one that never ends; more of them where others use the machine too."""
+        """The seconds after which the check counts as hanging. A busy machine gives it more."""
         share = max(os.getloadavg()) / processors()
         return (600 + 10 * self.check.seconds) * min(MOST_SHARE, max(1, share))
 
@@ -119,8 +120,8 @@ class Run:
         return True
 
     def end(self):
-        """Ends it, and what it leaves running, and takes away its files."""
-        # the process isn't waited for before, so that its number is still its own
+        """Ends the check and all processes that it left running, and removes its files."""
+        # nobody has waited for the process yet, so the system can't have given its id to another one
         os.killpg(self.process.pid, signal.SIGKILL)
         self.process.wait()
         shutil.rmtree(self.folder, ignore_errors=True)
@@ -131,7 +132,7 @@ class Run:
 
 
 class Outcome:
-    """What came of a check, by its status and by what it printed."""
+    """The result of a check, by its exit status and its output."""
 
     def __init__(self, run):
         self.output, self.status = run.output(), run.process.returncode
@@ -147,7 +148,7 @@ class Outcome:
         return self.status in (0, SKIPPED) and bool(self.parts) and not self.passed and not self.failed
 
     def fault(self):
-        """Why it counts as failed, or nothing."""
+        """Why the check counts as failed, or None."""
         if self.hangs:
             return 'was ended, as it seemed to hang'
         if self.status:
@@ -158,7 +159,7 @@ class Outcome:
 
 
 class Report:
-    """What is told of the checks that ended."""
+    """Prints the results of checks, and counts them."""
 
     def __init__(self):
         self.counts = collections.Counter()
@@ -188,8 +189,7 @@ class Report:
 
 
 def run_all(checks, jobs, program, report):
-    """Runs the checks: first those that may run at once, the longest first, and then one after another those that
-    measure time."""
+    """Runs the checks that may run in parallel, longest first. Then runs those that measure time, one after another."""
     waiting = sorted(checks, key=lambda check: (check.alone, -check.seconds))
     running = []
     with tempfile.TemporaryDirectory(prefix='jac-test-', ignore_cleanup_errors=True) as room:
@@ -210,10 +210,10 @@ def run_all(checks, jobs, program, report):
 
 def arguments(checks):
     parser = argparse.ArgumentParser(prog='./test', description=__doc__)
-    parser.add_argument('names', metavar='NAME', nargs='*', help='the checks to run; all of them where none is named')
+    parser.add_argument('names', metavar='NAME', nargs='*', help='the checks to run (default: all)')
     parser.add_argument('--list', action='store_true', help='list the checks, and run none')
     parser.add_argument('--jobs', metavar='N', type=int, default=processors(),
-                        help='how many checks run at once (%(default)s, one for each processor)')
+                        help='how many checks run in parallel (default: %(default)s, one for each processor)')
     given = parser.parse_args()
     unknown = [name for name in given.names if name not in checks]
     if unknown:
@@ -247,7 +247,7 @@ def main():
 
 
 if __name__ == '__main__':
-    # so that the checks that are under way end with it
+    # so that running checks end with this script
     for number in signal.SIGTERM, signal.SIGHUP, signal.SIGINT:
         signal.signal(number, lambda number, _: sys.exit(128 + number))
     sys.exit(main())

@@ -1,5 +1,6 @@
-"""The words of the commands, for messages alone: which one is wrong, where the program has put its line of usage. The
-program decides; docs/USING.md has the rules, and `checks/fault_places.py` compares these with the program's."""
+"""Says which argument of a command is wrong, after the program has printed its usage line. This is only for messages,
+because the program decides what it accepts. docs/USING.md has the rules. `checks/fault_places.py` compares the rules
+here with those of the program."""
 import difflib
 import re
 
@@ -10,17 +11,17 @@ OPTIONS = {'check': [], 'replay': FILES + ['--lazy'], 'serve': FILES + ['--lazy'
            'upgrade': ['--db'], 'why': ['--db']}
 FLAGS = ['--lazy']
 MANY = 2 ** 128
-HELP = '''what jac does; docs/USING.md has more of each
-    check APP               reads an application, and says what is wrong with it
-    dev APP PORT            serves it while it is written, for a browser on this machine
-    lint APP                points out places to think about: writes, raw text, strangers
-    walk APP WALK..         tests it by walks, which say who asks what and what is expected
-    serve APP PORT COUNT    serves so many connections
-    replay APP EVENTS       answers a file of events
-    dump APP LABELS         puts the records of a store as these labels show them
-    why APP VIEWER          says what a viewer isn't shown of a store, and why
-    upgrade OLD NEW         brings a store from one application to the next
-    demo N                  answers so many requests of its own
+HELP = '''what jac does; docs/USING.md says more about each command
+    check APP               reads an application, and prints its first fault
+    dev APP PORT            serves it to a browser on this machine while you write it
+    lint APP                lists places to think about: writes, raw text, strangers
+    walk APP WALK..         tests it with walks, files of requests and expected replies
+    serve APP PORT COUNT    answers the requests of COUNT connections to a port
+    replay APP EVENTS       answers the requests in a file of events
+    dump APP LABELS         prints the records of a store as these labels show them
+    why APP VIEWER          prints what a viewer isn't shown of a store, and why
+    upgrade OLD NEW         converts a store from one version of an application to the next
+    demo N                  answers N requests of its own
 options: --db FILE, the store; --sessions FILE, who is who; --audit FILE, what was shown; --lazy'''
 
 
@@ -29,7 +30,7 @@ def whole(word, least, most):
 
 
 def operand_words(name, word):
-    """What is wrong with the word that stands for this operand, or nothing."""
+    """What is wrong with this word as the operand, or ''."""
     if word == '':
         return '%s is an empty name' % name
     if name == 'PORT' and not whole(word, 1, 65535):
@@ -62,13 +63,13 @@ def option_words(command, option):
 
 
 class Words:
-    """The words after a command, read one after another."""
+    """The arguments of a command, read one after another."""
 
     def __init__(self, command, words):
         self.command, self.left, self.operands, self.seen = command, list(words), [], []
 
     def fault(self):
-        """The first word that is wrong, in words, or nothing."""
+        """A message about the first wrong argument, or ''."""
         plain = False
         while self.left:
             word = self.left.pop(0)
@@ -112,21 +113,21 @@ class Words:
 
 
 def applications(words):
-    """The names of the applications among the words of a command that has nothing wrong."""
+    """The applications among the arguments of a valid command."""
     read = Words(words[0], words[1:])
     read.fault()
     return [word for name, word in zip(COMMANDS[words[0]], read.operands) if name in ('APP', 'OLD', 'NEW')]
 
 
 def events(words):
-    """The file of events among the words of a command that has nothing wrong, or None."""
+    """The file of events among the arguments of a valid command, or None."""
     read = Words(words[0], words[1:])
     read.fault()
     return dict(zip(COMMANDS[words[0]], read.operands)).get('EVENTS')
 
 
 def value_of(words, option):
-    """The file that an option of these words names, or None."""
+    """The file that this option names, or None."""
     words = words[:words.index('--')] if '--' in words else words
     for place, word in enumerate(words):
         if word == option and place + 1 < len(words):
@@ -137,7 +138,7 @@ def value_of(words, option):
 
 
 def fault(words):
-    """What is wrong with the words of a command, or nothing."""
+    """What is wrong with a command and its arguments, or ''."""
     if not words or words[0] in ('help', '--help', '-h'):
         return HELP
     if words[0] not in COMMANDS:

@@ -1,19 +1,21 @@
 #!/usr/bin/env python3
-"""Measures what the gate takes, crate by crate: the processor minutes of each crate's proof, of the proof of its tests,
-and of its must-fail edits, each from nothing, with as many crates side by side as processors and memory allow. It works
-on a clone of what was committed, among the temporary files, and takes nothing that earlier runs kept. What was measured
-is written down beside the clone, so that a run that was cut short goes on with what it lacks, as long as the crates
-stay.
+"""Measures the processor minutes of the gate, crate by crate: of each crate's proof, of the proof of its tests, and of
+its wrong bodies (edits).
 
-With `--gate` it runs the gate itself, `rt ci`, here and once, and measures that; what it proves is kept as by any gate. On
-a machine that keeps nothing that is the whole table, and the time by the clock. With names of crates behind it, it runs
-`rt ci NAME ..`, and adds what that took to what earlier gates took that were measured on this machine, in a file among
-the temporary ones: so a table can be of several gates, each of which proved what those before it had not. Where a crate
-was kept from a run that wasn't measured, its row is lacking, and nothing is written.
+Without `--gate` each crate is proved from nothing, as many in parallel as processors and memory allow. This happens in
+a clone of the last commit, in the temporary directory, and uses nothing that earlier runs kept. The measurements are
+stored beside the clone. So after a run was interrupted, the next one measures only what is missing, unless a commit has
+changed the crates.
 
-A crate's edits cost a check of the crate, which they begin with, one over it for each of them, and one at the end, as
-in `rt ci`. The minutes are those of the processors, by the system's count of a process and of all that it waited for,
-so that other work on the machine lengthens them a little, and not by its own time."""
+With `--gate` the gate `rt ci` runs here, once, and is measured. What it proves is kept, as after any gate. On a machine
+that keeps nothing, this gives the whole table and the elapsed time. With names of crates, `rt ci NAME ..` runs. Its
+measurements are added to those of earlier gates on this machine, in a file in the temporary directory. So a table may
+be of several gates, each of which proved what the earlier ones hadn't. If a crate was kept from a run that wasn't
+measured, its row is missing, and nothing is written.
+
+The wrong bodies of a crate cost one check of the crate at the beginning, one for each of them, and one at the end, as
+in `rt ci`. The minutes are the processor time that the system counted for a process and for all processes that it
+waited for. So other work on the machine makes them a little longer, but isn't counted itself."""
 import collections
 import os
 import shutil
@@ -37,15 +39,15 @@ PROOF, TESTS, EDITS = STEPS = 'proof', 'tests', 'edits'
 
 
 def step(what, name):
-    """Runs one step in the clone, as `rt ci` does it. This is a process of its own, whose time is taken."""
+    """Runs one step in the clone, as `rt ci` does. This function runs in a process of its own, which is measured."""
     rt = kit.load()
-    # its first call sets handlers of signals, which the main thread alone may
+    # the first call sets signal handlers, which only the main thread may do
     rt.rtlib.guarded()
     rt.Crate.allowed, rt.Crate.cuts_libraries = rt.handles_of(os.getcwd()), True
     if what == EDITS:
-        # the libraries below are there, as the proofs of this run made them
+        # the proofs of this run have already made the lower libraries
         rt.rtlib.Crate.build_rlib = lambda *given, **named: 0
-        # a kit that keeps no tries takes the flag for the name of a crate, and there is none of that name
+        # a kit that doesn't remember tries takes this flag for a crate's name, and there is no such crate
         return rt.edits_alone(['--anew', name])
     rt.rtlib.Crate = rt.Crate
     crate = next(crate for crate in rt.rtlib.crates_below(os.getcwd()) if crate.name == name)
@@ -57,7 +59,7 @@ def step(what, name):
 
 
 class Step:
-    """A step under way, and what it took once it ended."""
+    """A running step. After it ends, `minutes` and `memory` say what it took."""
 
     def __init__(self, clone, what, name, jobs):
         self.what, self.name, self.status = what, name, None
@@ -83,14 +85,14 @@ class Step:
 
 
 def named():
-    """A name for what is committed of the crates."""
+    """A name for the committed state of the crates."""
     trees = subprocess.run(['git', 'rev-parse', 'HEAD:crates', 'HEAD:crates.txt'], cwd=TOP, stdout=subprocess.PIPE,
                            text=True, check=True).stdout.split()
     return '-'.join(tree[:8] for tree in trees)
 
 
 class Notes:
-    """What was measured of the crates that are committed, a line each, beside the clone that it is measured in."""
+    """The measurements of the committed crates, one line for each step, in a file beside the clone."""
 
     def __init__(self, anew):
         self.folder = os.path.join(tempfile.gettempdir(), 'jac-cost-' + named())
@@ -104,7 +106,7 @@ class Notes:
         if os.path.isfile(self.file):
             with open(self.file, encoding='utf-8') as lines:
                 for line in lines:
-                    # an earlier version didn't write down how many processors there were
+                    # the file may lack the number of processors, if an earlier version of this script wrote it
                     what, name, minutes, memory, *lanes = line.split()
                     self.found[what, name] = float(minutes), int(memory)
                     self.processors.update(map(int, lanes))
@@ -117,13 +119,13 @@ class Notes:
 
 
 def edits_of(name):
-    """How many must-fail edits the crate has."""
+    """How many wrong bodies the crate has in `must-fail`."""
     folder = os.path.join(TOP, 'crates', name, 'must-fail')
     return sum(file.endswith('.edit') for file in os.listdir(folder)) if os.path.isdir(folder) else 0
 
 
 def has(what, name):
-    """Whether the crate has tests, or edits."""
+    """Whether the crate has tests, or whether it has wrong bodies."""
     folder = os.path.join(TOP, 'crates', name)
     if what == EDITS:
         return edits_of(name) > 0
@@ -136,7 +138,8 @@ def has(what, name):
 
 
 def tasks_for(notes, wanted):
-    """The proofs of the crates that are wanted and of those below them, and the tests and edits of those wanted."""
+    """The proofs of the wanted crates and of their lower crates, and the tests and wrong bodies of the wanted crates,
+    without the steps that are already measured."""
     every = crates()
     proofs = [name for name in every if any(name in below(other) for other in wanted)]
     thought = costs(every)
@@ -151,7 +154,8 @@ def tasks_for(notes, wanted):
 
 
 def measure(notes, wanted):
-    """Runs the steps, and returns whether every crate was proved. Tests and edits that fail are told, and count."""
+    """Runs the steps, and returns whether every crate was proved. If tests or wrong bodies fail, this is printed, and
+    their time counts."""
     schedule, failed = Schedule(tasks_for(notes, wanted)), []
     while not schedule.is_over() and not (failed and not schedule.running):
         if not failed:
@@ -172,7 +176,7 @@ def measure(notes, wanted):
 
 
 def table(notes, names, when, how):
-    """The rows that the page has, a line for each crate, and their sum."""
+    """The table for the page, with a row for each crate and a row of the sums."""
     def cell(what, name):
         found = notes.found.get((what, name))
         return '%.1f' % found[0] if found else ''
@@ -189,8 +193,8 @@ def table(notes, names, when, how):
 
 
 def tasks_of(found):
-    """The steps that were measured, as `rt ci` runs them: the proof of a crate and that of its tests wait for the proofs of
-    the crates below, and each of its edits waits for both."""
+    """The measured steps as tasks, in the order of `rt ci`: the proof of a crate and the proof of its tests wait for
+    the proofs of the crates that it uses. Each of its wrong bodies waits for both."""
     every = crates()
     for (what, name), (minutes, _) in found.items():
         if what == EDITS:
@@ -202,7 +206,7 @@ def tasks_of(found):
 
 
 def how_long(measures):
-    """The gates that were measured, and what one would take on two processors and on four."""
+    """Says which gates were measured, and how long one would take on two and on four processors."""
     clock = collections.Counter()
     for minutes, lanes in measures.runs:
         clock[lanes] += minutes
@@ -212,14 +216,14 @@ def how_long(measures):
         '%d runs of `rt ci`, each of which proved what those before it had not, and which took %s' % (
             len(measures.runs), took))
     tasks = list(tasks_of(measures.found))
-    # what one run took by the clock isn't computed too
+    # if a single run measured the time on so many processors, the time isn't computed as well
     thought = ' and '.join('%.0f minutes on %d processors' % (computed(tasks, lanes), lanes) for lanes in (2, 4)
                            if len(measures.runs) > 1 or lanes not in clock)
     return '%s (by these figures a run would take %s, if they did nothing else)' % (runs, thought)
 
 
 def measure_gate(given):
-    """Runs the gate here, and prints or writes the table of all that was measured on this machine."""
+    """Runs the gate here. Prints the table of all that was measured on this machine. With --write, also writes it."""
     measures, names = measured(TOP, given.names), list(crates())
     print('%.0f minutes by the clock on %d processors' % measures.runs[-1])
     lacking = ['%s of %s' % (what, name) for name in names for what in STEPS
@@ -237,7 +241,7 @@ def measure_gate(given):
 
 
 def measure_crates(given):
-    """Measures crate by crate, and prints or writes the table."""
+    """Measures crate by crate, and prints the table. With --write, also writes the table."""
     wanted, notes = given.names or list(crates()), Notes(given.anew)
     print('measuring in %s, with %d processors and %d MB' % (notes.clone, processors(), free_memory()), flush=True)
     if not measure(notes, wanted):
@@ -253,10 +257,10 @@ def measure_crates(given):
 
 def main():
     parser = script_parser()
-    parser.add_argument('names', metavar='CRATE', nargs='*', help='the crates that are wanted; none: all')
-    parser.add_argument('--gate', action='store_true', help='run `rt ci` here, and measure that')
-    parser.add_argument('--write', action='store_true', help='write the table of docs/TESTING.md, if it is over all crates')
-    parser.add_argument('--anew', action='store_true', help='forget what an earlier run crate by crate has measured')
+    parser.add_argument('names', metavar='CRATE', nargs='*', help='the crates to measure (default: all)')
+    parser.add_argument('--gate', action='store_true', help='run `rt ci` here, and measure it')
+    parser.add_argument('--write', action='store_true', help='write the table to docs/TESTING.md, if it has all crates')
+    parser.add_argument('--anew', action='store_true', help='discard what earlier runs without --gate have measured')
     given = parser.parse_args()
     return measure_gate(given) if given.gate else measure_crates(given)
 

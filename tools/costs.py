@@ -1,5 +1,5 @@
-"""What the proof of each crate is thought to cost: what the table of docs/TESTING.md says, which `cost.py` writes, and
-for a crate that it lacks a guess by the lines of its text."""
+"""The expected cost of each crate's proof, from the table in docs/TESTING.md, which `cost.py` writes. The cost of a
+crate that isn't in the table is guessed from its number of lines."""
 import os
 import re
 
@@ -14,14 +14,14 @@ LINES_A_MB = 2
 
 
 class Cost:
-    """Minutes of one processor for the proof, and the most MB of one process of it."""
+    """The processor minutes of a proof, and the most MB that one of its processes takes."""
 
     def __init__(self, proof, memory):
         self.proof, self.memory = proof, memory
 
 
 def measured():
-    """What the table has, by crate."""
+    """The costs in the table, by crate."""
     with open(os.path.join(TOP, PAGE), encoding='utf-8') as file:
         table = file.read().partition(BEGIN)[2].partition(END)[0]
     return {name: Cost(float(proof), int(memory)) for name, proof, _, _, memory in ROW.findall(table)}

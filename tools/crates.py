@@ -1,4 +1,4 @@
-"""The crates of the repository: which stand on which, by `crates.txt`, and how long their texts are."""
+"""The crates of the repository: which crates each one uses, by `crates.txt`, and how many lines it has."""
 import os
 
 TOP = os.path.dirname(os.path.dirname(os.path.abspath(__file__)))
@@ -7,7 +7,7 @@ PROGRAM = 'jac_main'
 
 
 def crates():
-    """Each crate, lowest first, with the crates of the repository that it stands on."""
+    """Each crate, lowest first, with the crates of the repository that it uses directly."""
     found = {}
     with open(os.path.join(TOP, 'crates.txt'), encoding='utf-8') as lines:
         for line in lines:
@@ -18,7 +18,7 @@ def crates():
 
 
 def below(program):
-    """The program's crate and each crate below it, lowest first, with those that it stands on."""
+    """The program's crate and its lower crates, lowest first, each with the crates that it uses directly."""
     every, wanted, left = crates(), set(), [program]
     while left:
         name = left.pop()
@@ -41,7 +41,7 @@ def files(name, parts=PARTS):
 
 
 def lines(name):
-    """The lines of a crate's code, definitions and proofs."""
+    """The number of lines of a crate's code, definitions and proofs."""
     count = 0
     for path in files(name):
         with open(os.path.join(TOP, path), 'rb') as file:

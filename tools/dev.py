@@ -1,10 +1,10 @@
 #!/usr/bin/env python3
-"""Serves an application while it is written: at each save the text is checked and linted, and the new
-text is served in the place of the old one. Requests that come meanwhile wait, and none is refused. `./jac dev` starts
-it, and gives it the program as its first word. docs/USING.md, "Writing an application", says what the browser shows.
+"""Serves an application while you write it. After each save the text is checked and linted. If it has no fault, it
+replaces the old text. Requests that arrive meanwhile wait, and none is refused. `./jac dev` starts this script, and
+passes the program as the first argument. docs/USING.md, "Writing an application", says what the browser shows.
 
-It is for writing and not for serving: it listens on 127.0.0.1 alone, lets whoever reaches it be anybody of the sessions
-file, and tells which labels are hidden."""
+Use it only while you write: it listens on 127.0.0.1, lets whoever reaches it be any viewer of the sessions file, and
+shows which labels are hidden."""
 import argparse
 import contextlib
 import os
@@ -31,13 +31,13 @@ from hidden import output_of                                                # no
 TOOLS = os.path.dirname(os.path.abspath(__file__))
 HOST = '127.0.0.1'
 EVERY = 0.15            # seconds between two looks at the files
-CONNECTIONS = 1000000   # after which a run of `serve` ends, and another one begins
-TRIES = 5               # ports that are tried for a run of `serve`
-ASKED = 50              # times that a request is sent whose connection is dropped
+CONNECTIONS = 1000000   # after which a process of `serve` ends, and the next one begins
+TRIES = 5               # ports that are tried for a process of `serve`
+ASKED = 50              # how often a request is sent, if its connection is dropped each time
 
 
 class Refused(Exception):
-    """Why a text isn't served: a headline, what there is to say of it, and whether a new store would help."""
+    """Why a text isn't served: a headline, details, and whether a new store would help."""
 
     def __init__(self, headline, details='', is_schema=False):
         super().__init__(headline)
@@ -46,7 +46,7 @@ class Refused(Exception):
 
 
 class Ended(Exception):
-    """A run of `serve` ended before it listened."""
+    """A process of `serve` ended before it listened."""
 
     def __init__(self, status, line, told):
         super().__init__(line)
@@ -58,13 +58,13 @@ def tell(text):
 
 
 class Source:
-    """The application's file or folder, and the sessions' file: what is watched."""
+    """The files that are watched: the application's file or folder, and the sessions file."""
 
     def __init__(self, path, sessions):
         self.path, self.sessions = path, sessions
 
     def name(self):
-        """What the application is called on pages: its path, or the folder's name where the path is only `.` or `..`."""
+        """The application's name on pages: its path, or the folder's name if the path is only `.` or `..`."""
         last = os.path.basename(os.path.normpath(self.path))
         return os.path.basename(os.path.realpath(self.path)) if last in ('.', '..') else self.path
 
@@ -78,7 +78,7 @@ class Source:
         return found
 
     def state(self):
-        """What differs once one of the files was saved."""
+        """A value that changes when one of the files is saved."""
         state = []
         for path in self.files():
             try:
@@ -97,7 +97,7 @@ class Source:
 
 
 class Text:
-    """A text of the application that is right, in a file of its own."""
+    """A text of the application that has no fault, in a file of its own."""
 
     def __init__(self, path, data, summary):
         self.path, self.data, self.summary = path, data, summary
@@ -105,7 +105,7 @@ class Text:
 
 
 class Child:
-    """A run of `serve`, on a port of its own."""
+    """A process of `serve`, on a port of its own."""
 
     def __init__(self, words, room):
         self.audit, self.run = os.path.join(room, 'audit'), None
@@ -141,8 +141,8 @@ class Child:
             time.sleep(0.005)
 
     def ask(self, request):
-        """The reply's bytes, and the audit's line of it. The program drops a connection on which the first byte comes
-        late, as it may on a busy machine. It has taken nothing then, and writes no line, so it is asked again."""
+        """The reply's bytes, and its audit line. On a busy machine the first byte may arrive late. The program then
+        drops the connection, reads nothing, and writes no audit line. So the request is sent again."""
         for _ in range(ASKED):
             reply, line = self.reply_to(request), self.audited()
             if reply or line:
@@ -152,7 +152,7 @@ class Child:
         raise ConnectionError('the connection ended without a reply')
 
     def reply_to(self, request):
-        """The bytes that come until the connection ends."""
+        """The bytes that arrive until the connection ends."""
         parts = []
         with contextlib.suppress(ConnectionError), socket.create_connection((HOST, self.port), 600) as line:
             line.sendall(request)
@@ -161,7 +161,7 @@ class Child:
         return b''.join(parts)
 
     def audited(self):
-        """The last line of the audit that was written since it was read."""
+        """The last line of the audit that was written since the previous call."""
         with open(self.audit, 'rb') as file:
             file.seek(self.read)
             lines = file.read()
@@ -178,8 +178,9 @@ class Child:
 
 
 class Dev:
-    """What is served, and what was refused. `door` is held by whoever asks the program or exchanges it."""
-    faults = OSError, Ended, hidden.Fault   # of `ask` and `why`
+    """What is served, and what was refused. A thread holds the lock `door` while it sends the program a request or
+    replaces the program."""
+    faults = OSError, Ended, hidden.Fault   # that `ask` and `why` may raise
 
     def __init__(self, options, room):
         self.program, self.port, self.room = options.program, options.port, room
@@ -194,7 +195,7 @@ class Dev:
     # a save
 
     def take(self):
-        """Serves the application as it is now, or keeps what is wrong with it."""
+        """Serves the application as it is now, or notes what is wrong with it."""
         with self.work:
             try:
                 text = self.checked(self.source.read())
@@ -221,7 +222,7 @@ class Dev:
         raise Refused(line.replace(path, self.source.path), fault_place.report(self.program, data, self.source.path, line))
 
     def looked(self):
-        """What the linter says of the application, or nothing."""
+        """What the linter prints for the application, or ''."""
         _, out, told = output_of([sys.executable, os.path.join(TOOLS, 'lint.py'), self.source.path])
         return '' if out.startswith('lint: nothing') else out or told
 
@@ -229,7 +230,7 @@ class Dev:
         return max(1, self.looks.count(': look at this'))
 
     def exchange(self, text):
-        """Serves this text from now on. Where that doesn't go, the one before is served as it was."""
+        """Serves this text from now on. If it can't be served, the previous text is served again."""
         with self.door:
             if self.is_over:
                 return
@@ -251,7 +252,7 @@ class Dev:
             self.text, self.waiting = text, None
 
     def reason(self, fault):
-        """Why the program didn't start: the place in the sessions, or what the store is, or what the program said."""
+        """Why the program didn't start: what it printed, and what is wrong with the sessions or the store."""
         told = ''
         if fault.status == fault_place.LINES_REFUSED:
             told = fault_place.told_of_sessions(self.program, self.sessions)
@@ -265,7 +266,7 @@ class Dev:
         return Child([*words, '--', text.path.replace('%', '%%'), '%(port)s', str(CONNECTIONS)], self.room)
 
     def start_again(self):
-        """The text that was served is served on; where that doesn't go, the next request tries it again."""
+        """Serves the previous text again. If the program doesn't start, the next request tries again."""
         if self.text:
             with contextlib.suppress(Ended):
                 self.child = self.started(self.text)
@@ -278,7 +279,8 @@ class Dev:
     # the store
 
     def upgraded(self, text):
-        """Brings the store to the text's models, where they extend its own, and returns the copy that is kept."""
+        """Upgrades the store if the text's models extend its own. Returns the copy of the old store, or None if there
+        was nothing to upgrade. Raises `Refused` if the models don't extend those of the store."""
         stored = schema.of_store(self.store)
         if stored is None:
             return None
@@ -310,7 +312,7 @@ class Dev:
         return '%s.before-%d' % (self.store, number)
 
     def copied(self):
-        """A copy of the store, which nobody serves meanwhile."""
+        """Copies the store, which nobody serves meanwhile, and returns the copy's path."""
         kept = self.free_name()
         source, made = sqlite3.connect(self.store), sqlite3.connect(kept)
         source.backup(made)
@@ -319,7 +321,7 @@ class Dev:
         return kept
 
     def put_back(self, kept):
-        """The store is what it was before the upgrade."""
+        """Replaces the store by the copy from before the upgrade."""
         if kept in self.kept:
             self.kept.remove(kept)
             self.note = ''
@@ -329,7 +331,7 @@ class Dev:
         os.replace(kept, self.store)
 
     def renew(self):
-        """Sets the store aside, and serves the text that waits over a new one."""
+        """Keeps a copy of the store, and serves the waiting text with a new store."""
         with self.work:
             text = self.waiting
             if text is None:
@@ -352,8 +354,7 @@ class Dev:
             self.version += 1
 
     def copy_for_reading(self):
-        """A copy of the store as it is between two requests, for commands that read it, and the text that goes with
-        it."""
+        """Copies the store, between two requests, and its text, for commands that read them. Returns both paths."""
         copy = os.path.join(self.room, 'copy')
         with self.door:
             for end in '', '-wal':
@@ -367,7 +368,7 @@ class Dev:
     # a request
 
     def ask(self, request):
-        """The reply, the audit's line, and the text that was asked; or None where there is no text yet."""
+        """The reply, its audit line, and the text that was served, or None if no text is served."""
         with self.door:
             if self.text is None or self.is_over:
                 return None
@@ -379,14 +380,13 @@ class Dev:
             return reply, line, self.text
 
     def why(self, viewer):
-        """What `why` says of this viewer over the store as it is: the labels that are shown, and what hides the
-        others."""
+        """The labels that this viewer is shown of the store as it is now, and for each other label the reason."""
         with self.asking:
             copy, text = self.copy_for_reading()
             return hidden.why(self.program, text, self.source.path, viewer, copy)
 
     def close(self):
-        """Ends the program, also where it is at work on a request."""
+        """Ends the program, even while it answers a request."""
         self.is_over, child = True, self.child
         if child:
             child.stop()
@@ -395,7 +395,7 @@ class Dev:
 
 
 def watch(dev):
-    """Takes the application at each save, once its files stay as they are."""
+    """Serves the application after each save, once its files no longer change."""
     seen = None
     while True:
         state = dev.source.state()
@@ -416,13 +416,13 @@ def port_of(word):
 def options_of(words):
     parser = argparse.ArgumentParser(prog='jac dev', description=__doc__, allow_abbrev=False,
                                      formatter_class=argparse.RawDescriptionHelpFormatter)
-    # the script jac gives it
+    # the script jac passes it
     parser.add_argument('program', type=os.path.abspath, help=argparse.SUPPRESS)
     parser.add_argument('app', metavar='APP', help='the application')
-    parser.add_argument('port', metavar='PORT', type=port_of, help='where the browser finds it, on this machine alone')
-    parser.add_argument('--db', metavar='FILE', help='the store; else one is made, and removed at the end')
+    parser.add_argument('port', metavar='PORT', type=port_of, help='the port on this machine where browsers find it')
+    parser.add_argument('--db', metavar='FILE', help='the store (default: a new one, which is removed at the end)')
     parser.add_argument('--sessions', metavar='FILE',
-                        help='the sessions; of a folder its own file `sessions`, if it has one')
+                        help="the sessions (default: the file `sessions` in the application's folder, if there is one)")
     options = parser.parse_args(words)
     beside = os.path.join(options.app, 'sessions')
     if options.sessions is None and os.path.isfile(beside):

@@ -1,5 +1,5 @@
-"""The pages of `tools/dev.py`: the bar that it adds to each page, its own page, and the labels of a page in words. What
-comes from the application, from its sessions or from the store is escaped here, each where it stands."""
+"""The pages of `tools/dev.py`: the bar that it adds to each page, its own page, and the labels of a page in words. Each
+text from the application, the sessions or the store is escaped here, where it is inserted."""
 import html
 import json
 import os
@@ -52,7 +52,7 @@ PAGE = '''<!DOCTYPE html>
 %s
 </html>
 '''
-# The first script is for each page, the second one for the bar. Without them all works but what moves by itself.
+# RELOAD is for each page, MOVE for the bar. Without these scripts pages still work, but don't change by themselves.
 RELOAD = '''<script>(() => {
   const version = %d, again = %s;
   const look = setInterval(async () => {
@@ -92,7 +92,7 @@ def escaped(text):
 
 
 def sessions(dev):
-    """The tokens of the sessions file, each with its viewer, the first line of a token counting."""
+    """The tokens of the sessions file, each with its viewer. If a token is in several lines, the first one counts."""
     found = {}
     if dev.sessions:
         try:
@@ -113,7 +113,7 @@ def named(text, viewer):
 
 
 def choice(dev, text, token, back):
-    """The form by which one becomes somebody else."""
+    """The form that changes the viewer."""
     options = ['<option value="">nobody</option>']
     for name, viewer in sessions(dev):
         options.append('<option value="%s"%s>%s: %s</option>' % (
@@ -123,13 +123,13 @@ def choice(dev, text, token, back):
 
 
 def told(text):
-    """Messages with marked lines: each message wraps, and what is indented below it stays as it is laid out."""
+    """Messages with marked lines, as HTML. The browser wraps a message, but not the indented lines below it."""
     parts = re.findall(r'(?m)^(?:[ \t]+.*(?:\n[ \t].*)*|\S.*)', text)
     return ''.join(('<pre>%s</pre>' if part[0] in ' \t' else '<p>%s</p>') % escaped(part) for part in parts)
 
 
 def wrong(dev):
-    """What is wrong with the text that was saved last."""
+    """What is wrong with the last saved text, or ''."""
     refused = dev.refused
     if not refused:
         return ''
@@ -173,7 +173,7 @@ def bar(dev, page, token):
 
 
 def home(dev, token):
-    """Dev's own page, which is also shown for each page as long as no text was right."""
+    """Dev's own page. As long as no text is served, it is shown in place of each page."""
     text = dev.text
     parts = ['<h1>%s</h1>' % escaped(dev.source.name()), wrong(dev)]
     if text:
@@ -197,7 +197,7 @@ below <code>%s</code>. No view has such a path, since no part of a view's path i
 
 
 def broken(dev, fault, back):
-    """The page where the program gave no reply; `back` is the page to ask for again."""
+    """The page that says that the program gave no reply. `back` is the page to request again."""
     words = '\n'.join(part for part in (getattr(fault, 'line', ''), getattr(fault, 'told', '')) if part) or str(fault)
     text = '<h1>No reply</h1>' \
            '<p>The program gave no reply to this request, and is started again with the next one.</p>' \
@@ -220,7 +220,7 @@ def listed(head, kind, items):
 
 
 def labels(dev, page):
-    """The labels of a page: those that are shown, and those that aren't, with the policies that hide them."""
+    """The labels of a page: those that are shown, and those that are hidden, with the policies that hide them."""
     names = audit.Names(page.text.data)
     _, why = dev.why(page.viewer)
     hidden = page.hidden()
@@ -236,7 +236,7 @@ def labels(dev, page):
 
 
 def alone(page, text):
-    """The same as a page of its own."""
+    """The text that `labels` returns, as a page of its own."""
     body = '<h1>Labels of %s</h1>%s<p><a href="%s">Back</a></p>' % (
         escaped(page.target), text, escaped(page.target) if page.method == 'GET' else '/')
     return PAGE % ('Labels', STYLE, body, '')

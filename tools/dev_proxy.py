@@ -1,7 +1,7 @@
-"""The door of `tools/dev.py`: hands each request of a browser to the program, and adds a bar to each page of HTML.
+"""The proxy of `tools/dev.py`. It passes each request of a browser to the program, and adds a bar to each HTML page.
 
-Its own pages are below `/dev//`. No view has such a path: no segment of a view's path is empty, and a segment `{NAME}`
-takes no empty part."""
+Its own pages are below `/dev//`. No view has such a path: a view's path has no empty segment, and a segment `{NAME}`
+matches no empty one."""
 import collections
 import http.server
 import json
@@ -12,16 +12,16 @@ import dev_pages
 from dev_pages import PREFIX
 from hidden import labels_of
 
-PAGES = 500             # that are remembered, for what is asked of them later
-MOST = 1 << 20          # bytes of a body that are read
+PAGES = 500             # the most pages that are remembered, for later requests of their labels
+MOST = 1 << 20          # the most bytes of a body
 NAMES = {'127.0.0.1', 'localhost', '[::1]', ''}
-# what belongs to one connection alone (RFC 9110, section 7.6.1)
+# headers that are for one connection only (RFC 9110, section 7.6.1)
 OF_CONNECTION = {'connection', 'keep-alive', 'proxy-connection', 'te', 'trailer', 'upgrade', 'expect'}
 AUDIT = re.compile(r'\d+ (\d+) (-|\d+) (-|nopage|[\d,]+)(?: of (-|[\d,]+))?')
 
 
 class Page:
-    """A page that was shown: who asked for what, and its labels. `consulted` is None where the audit tells none."""
+    """A page that was shown: its request, viewer and labels. `consulted` is None if the audit doesn't have it."""
 
     def __init__(self, number, method, target, line, text):
         found = AUDIT.fullmatch(line)
@@ -31,7 +31,7 @@ class Page:
         self.consulted = labels_of(found.group(4)) if found and found.group(4) else None
 
     def hidden(self):
-        """The labels that the page consulted and that aren't shown, or None where it isn't told."""
+        """The labels that the page consulted and that aren't shown, or None if the consulted labels aren't known."""
         if self.consulted is None:
             return None
         return [label for label in self.consulted if label not in self.shown]
@@ -46,7 +46,7 @@ def split_reply(reply):
 
 class Handler(http.server.BaseHTTPRequestHandler):
     protocol_version = 'HTTP/1.1'
-    timeout = 60        # of a connection that is kept and not used
+    timeout = 60        # seconds until an idle connection is closed
 
     def answer(self):
         self.target = self.requestline.split()[1]
@@ -62,10 +62,10 @@ class Handler(http.server.BaseHTTPRequestHandler):
     do_GET = do_HEAD = do_POST = do_PUT = do_DELETE = do_PATCH = do_OPTIONS = do_TRACE = answer
 
     def log_message(self, *_):
-        """Nothing is put for a request."""
+        """Logs nothing."""
 
     def body(self):
-        """The body of the request, or None where it can't be read."""
+        """The body of the request, or None if it can't be read."""
         length = self.headers.get('Content-Length', '0')
         if not length.isdigit() or int(length) > MOST or 'Transfer-Encoding' in self.headers:
             self.close_connection = True
@@ -93,7 +93,7 @@ class Handler(http.server.BaseHTTPRequestHandler):
     def redirect(self, path, headers=()):
         self.send_text(303, 'text/plain', '', [('Location', path), *headers])
 
-    # the application's
+    # requests for the application's pages
 
     def as_sent(self, body):
         kept = [(name, value) for name, value in self.headers.items() if name.lower() not in OF_CONNECTION]
@@ -118,7 +118,7 @@ class Handler(http.server.BaseHTTPRequestHandler):
         return self.send(first, headers, page)
 
     def is_shown(self, headers):
-        """Whether the reply is a page of HTML that a browser shows, and none that a script asked for."""
+        """Whether the reply is an HTML page that the browser shows, not one that a script requested."""
         return headers.get('Content-Type', '').startswith('text/html') and \
             self.headers.get('Sec-Fetch-Dest', 'document') in ('document', 'iframe', 'frame') and self.command != 'HEAD'
 
@@ -135,7 +135,7 @@ class Handler(http.server.BaseHTTPRequestHandler):
         found = re.search(r'(?:^|;)\s*session=([^;\s]*)', self.headers.get('Cookie', ''))
         return found.group(1) if found else None
 
-    # its own
+    # requests for dev's own pages
 
     def own(self):
         dev, word = self.server.dev, self.target[len(PREFIX):].partition('?')[0]
@@ -163,7 +163,7 @@ class Handler(http.server.BaseHTTPRequestHandler):
             return self.send_text(403, 'text/plain', 'This form is not one of dev\'s own pages.\n')
         form = urllib.parse.parse_qs((body or b'').decode('utf-8', 'replace'), keep_blank_values=True)
         back = form.get('back', ['/'])[0]
-        # a path of this door alone, and nothing that a browser takes for the name of another host
+        # only a path of this proxy, and nothing that a browser takes for the name of another host
         back = back if re.fullmatch(r'/(?![/\\])[!-~]*', back) else '/'
         if word == 'as':
             token = form.get('token', [''])[0]
@@ -195,7 +195,7 @@ class Server(http.server.ThreadingHTTPServer):
     allow_reuse_address = True
 
     def handle_error(self, request, client_address):
-        """A browser that goes away in between is no fault."""
+        """Prints nothing, because a browser may close a connection at any time."""
 
 
 def listen(dev, host, port):

@@ -1,8 +1,8 @@
 #!/usr/bin/env python3
-"""Writes the modes for editors: for Vim, and a grammar in TextMate's form, which VS Code and others read.
+"""Writes the editor modes: one for Vim, and a TextMate grammar, which VS Code and others read.
 
-Both are made of the table editors/forms.txt. Without --write the files are compared with what would be written, and the
-exit status is 1 where one differs."""
+Both are made from the table editors/forms.txt. Without --write the files are compared with what would be written. The
+exit status is 1 if one differs."""
 import argparse
 import json
 import os
@@ -120,7 +120,7 @@ def forms():
 
 
 def split():
-    """The words of kinds that are lists, and of those that are words of their own."""
+    """The words for kinds and for orders. Those that begin a list are apart from those that are used alone."""
     found = {'form_kind': [], 'bare_kind': [], 'ordered': [], 'bare_order': []}
     for word, kind, form in forms():
         if kind == 'kind':
@@ -133,7 +133,7 @@ def split():
 def vim():
     words = table()
     words['statement'] = words['statement'] + words['part']
-    # where fields and params begin a region of their own, nothing else is to take them
+    # fields and params begin regions of their own, so no other rule may match them
     words['declaration'] = [word for word in words['declaration'] if word not in ('fields', 'params')]
     texts = {kind: r'\|'.join(found) for kind, found in {**words, **split()}.items()}
     texts.update(note=NOTE, order_length=len(split()['bare_order'][0]))
@@ -146,7 +146,7 @@ def rule(name, pattern):
 
 
 def form_rules(words):
-    """The rules for words of the language; their expressions are such that Oniguruma and Python read them alike."""
+    """The rules for words of the language. Their regular expressions mean the same in Oniguruma and in Python."""
     end = '(?![A-Za-z0-9_-])'
     before = '(?<![A-Za-z0-9_(-])'
     return [
@@ -167,7 +167,7 @@ def form_rules(words):
 
 
 def textmate():
-    """The grammar."""
+    """The TextMate grammar."""
     words = {kind: '|'.join(found) for kind, found in {**table(), **split()}.items()}
     tags = [{'begin': opening, 'end': closing, 'name': 'meta.tag.template.jac',
              'beginCaptures': {'0': {'name': 'punctuation.section.embedded.jac'}},
@@ -194,7 +194,7 @@ def textmate():
 
 
 def code():
-    """What makes an extension of VS Code of the grammar."""
+    """The files that make the grammar an extension of VS Code."""
     package = {'name': 'jacqueline', 'displayName': 'Jacqueline', 'version': '1.0.0', 'engines': {'vscode': '^1.60.0'},
                'contributes': {
                    'languages': [{'id': 'jac', 'aliases': ['Jacqueline'], 'extensions': ['.app'],

@@ -1,12 +1,14 @@
 #!/usr/bin/env python3
-"""Shows the place that the line of a refused application means.
+"""Shows the place of the fault for which the program refused an application.
 
-Words: `--status N`, if the run's exit status is known, the program, and the words of its command. The program is asked
-for its line (`check`), the same text is read once more here, and where both find the same fault, standard error shows the
-file, the line and the column, the text with a mark under it, and in words what was expected and what stands there. It
-changes nothing: the line, the status and whatever is stored are the program's alone. Where the two readings don't agree,
-nothing is shown. Of a folder the place is that in its part. So it is with lines of the sessions and of the events, with
-words of the command, and with a store that isn't one of the application or is refused."""
+Arguments: `--status N` if the run's exit status is known, then the program and the arguments of its command. This
+script runs the program's `check`, and reads the same text itself. If both find the same fault, standard error shows the
+file, the line and the column, the text with a mark under it, what was expected, and what is there. If they don't agree,
+nothing is shown. If the application is a folder, the place is in a part of it.
+
+The same is done for lines of the sessions and of the events, for the arguments of the command, and for a store that
+belongs to another application or is refused. The script changes nothing. The program alone decides the line that it
+prints, its exit status and what is stored."""
 import itertools
 import os
 import re
@@ -69,7 +71,7 @@ WANTED = {
 
 
 class Fault(Exception):
-    """The fault's line, the span that it means (of bytes of the file), and what to say of it."""
+    """A fault: the line that the program prints, the span of bytes in the file, and a message with notes."""
 
     def __init__(self, line, start, end, words, notes=()):
         super().__init__(line)
@@ -85,7 +87,7 @@ class TreeFault(Exception):
 
 
 class FormFault(Exception):
-    """A tree, at a path from where the reading began, isn't what was wanted."""
+    """A tree isn't what was expected. `path` leads to it from the tree where the reading began."""
 
     def __init__(self, node, path, want, words=None):
         super().__init__(want)
@@ -99,7 +101,7 @@ class CheckFault(Exception):
 
 
 class Node:
-    """A tree, and where it stands: `start` and `end` are bytes of the file. A text knows where each of its bytes was."""
+    """A tree and its place: `start` and `end` are offsets in the file. `places` has the offsets of a text's bytes."""
 
     def __init__(self, kind, start, end, value=None, children=(), places=None):
         self.kind, self.start, self.end, self.value = kind, start, end, value
@@ -128,7 +130,7 @@ def valid_length(data):
 
 
 def read_tree(data, places):
-    """The tree that bytes spell; `places[i]` is where byte i stands in the file, and the last one where they end."""
+    """Parses bytes into a tree. `places[i]` is the offset of byte i in the file. The last one is that of the end."""
     if len(data) > LIMIT:
         raise TreeFault('long', 0, 'the text has more than %d bytes' % LIMIT)
     valid = valid_length(data)
@@ -245,8 +247,9 @@ def unclosed(data, open_lists):
 
 
 def never_closed(data, open_lists):
-    """The list that lacks its bracket, by the layout: the first one a child of which begins a line of its own no further
-    right than the list itself. Where the layout tells nothing, the innermost list that is open at the end."""
+    """The offset of the list that probably lacks its closing bracket. By the layout, that is the first list with a
+    child that begins a line and is indented no further than the list. If the layout doesn't show it, it is the
+    innermost list that is open at the end."""
     inside = {id(node): below for node, below in zip(open_lists, open_lists[1:])}
     found, left = [], [open_lists[0]]
     while left:
@@ -265,7 +268,7 @@ def begins_its_line(data, at):
 
 
 def ended_early(data, at, done, texts):
-    """Something follows the bracket that closes the first list: a bracket too many stands before it."""
+    """The fault if something follows the bracket that closes the first list: there is a bracket too many before it."""
     early = closed_early(data, done)
     if early is not None:
         return TreeFault('stray', at,
@@ -283,8 +286,9 @@ def ended_early(data, at, done, texts):
 
 
 def closed_early(data, done):
-    """The bracket before the first child of the application that is no item, or before the first one that begins a line
-    further right than the first such child of its list."""
+    """The offset of the bracket that probably is one too many, or None. It is the bracket before the first child of the
+    application that isn't an item, or else before the first child that begins a line and is indented further than the
+    first such child of its list."""
     found, left = [], [done]
     for before, child in zip(done.children[1:], done.children[2:]):
         is_item = child.head() in ('model', 'view', 'viewer')
@@ -304,7 +308,7 @@ def closed_early(data, done):
 
 
 def moved(node, places):
-    """The same tree with its places in the file."""
+    """The same tree, with offsets in the file in place of offsets in the bytes."""
     left = [node]
     while left:
         one = left.pop()
@@ -315,7 +319,7 @@ def moved(node, places):
     return node
 
 
-# The parts of models, whose name the atom `nested` may follow, and of groups.
+# The parts of models and of groups. The atom `nested` may follow the name of a model.
 
 def is_nested(model):
     return model.children[2].is_atom('nested')
@@ -415,7 +419,7 @@ class Tag:
 
 
 def tags_of(text):
-    """The tags of a text: from `{{` or `{%` to its own end outside of a quoted text."""
+    """The tags of a text. A tag begins with `{{` or `{%`, and ends with the next `}}` or `%}` outside of quotes."""
     at = 0
     while True:
         found = re.compile(rb'\{\{|\{%').search(text, at)
@@ -440,7 +444,8 @@ def tags_of(text):
 
 
 def template_fault(node):
-    """The first fault of a template's text: what, the tag's place in the text, a span in the file, words, notes."""
+    """The first fault of a template's text, or None: its kind, the tag's offset in the text, the start and the end of a
+    span in the file, a message, and notes."""
     text, places = node.value, node.places
     open_blocks, last = [], None
 
@@ -461,7 +466,7 @@ def template_fault(node):
                 inside = text[tag.start:tag.end]
                 first = tag.start + len(inside) - len(inside.lstrip())
                 return ('tree', tag.at, here(first), here(tag.start + len(inside.rstrip()) - 1) + 1, hint, [])
-            # a place in the tag's content: past its end it is the tag's own end
+            # the fault is in the tag's content, or at the tag's end if the content ends too early
             spot = here(tag.start + fault.start)
             return ('tree', tag.at, spot, spot + 1,
                     'what stands in the tag is no tree: ' + in_tag(fault, text, tag), [(start, 'the tag begins here')])
@@ -512,7 +517,7 @@ FORMS_OF_TAGS = {
 
 
 def bare_words(inside, kind):
-    """What to say of a tag as other template languages write it, whose form stands in no brackets; else None."""
+    """A message about a tag that is written as in other template languages, without brackets; or None."""
     words = inside.decode('utf-8', 'replace').split()
     if not words or words[0].startswith(('(', "'", '"')) or "'" in words[0]:
         return None
@@ -536,7 +541,7 @@ def in_tag(fault, text, tag):
     return fault.words
 
 
-# What is said.
+# Messages.
 
 def counted(number, word):
     return '%s %s%s' % (NUMBERS[number] if number < len(NUMBERS) else number, word, '' if number == 1 else 's')
@@ -606,7 +611,7 @@ def nearest(word, words, least=0.6):
     return found[0] if found else None
 
 
-# The checker: the first fault of names and kinds, in the order in which the program looks for it.
+# The checker finds the first fault of names and kinds, in the same order as the program.
 
 def kind_text(kind):
     return 'ref ' + kind[1] if isinstance(kind, tuple) else kind
@@ -651,11 +656,11 @@ class Checker:
         return kinds
 
     def reference(self, name):
-        """The kind of a reference; the checker tells no two models apart that aren't there, and names none of them."""
+        """The kind of a reference. References to unknown models all have the same kind, in which no model is named."""
         return ('ref', name.value if name.value in self.names else '')
 
     def check(self):
-        """Raises the line's fault, or gives nothing."""
+        """Raises the first fault, if there is one."""
         if self.viewer is not None:
             self.placed('viewer', self.known_model, self.viewer)
         for place, model in enumerate(self.models):
@@ -741,7 +746,7 @@ class Checker:
         names = [(name, kind, False) for name, kind in known.items()]
         self.body(body, Scope(names), method == 'get', [])
 
-    # statements; with them go the models of the binders of each loop round them
+    # statements; `loops` has the models of the binders of each loop around them
 
     def body(self, statements, scope, is_get, loops):
         for statement in statements:
@@ -838,7 +843,7 @@ class Checker:
         raise CheckFault(node, 'wrong kind: want %s, have %s' % (kind_text(want), kind_text(have)), words)
 
     def kinds(self):
-        """The models that kinds of fields and of parameters name."""
+        """The names of models in the kinds of fields and parameters."""
         lists = [fields_in(model) for model in self.models] + [view.children[3] for view in self.views]
         return [field.children[1].children[1] for fields in lists for field in fields.children[1:]
                 if field.children[1].kind == 'list']
@@ -953,7 +958,8 @@ class Checker:
         return found[0]
 
     def nameless(self, node, scope):
-        """The fault of a name that nothing has here: where it was lost, or what it may mean, and the names that there are."""
+        """The fault of a name that isn't bound here. Says where the name is bound, or what it may mean, and which names
+        there are."""
         word, known = node.value, list(dict.fromkeys(name for name, _, _ in scope.names))
         cause, close = 'unknown name ' + word, nearest(word, known)
         around = next((item for item in self.models + self.views if item.start <= node.start < item.end), None)
@@ -1000,7 +1006,7 @@ class Checker:
 
 
 class Binding:
-    """A form that binds names for what stands inside of it. One of a template has no bracket at its end."""
+    """A form that binds names for what is inside it. In a template it has no bracket at its end."""
 
     def __init__(self, form, is_tag):
         self.form, self.is_tag = form, is_tag
@@ -1015,7 +1021,7 @@ class Binding:
         return [binder.children[0].value for binder in query.children[1].children]
 
     def lost(self, node):
-        """What to say of the name where it is asked for outside of the form, and the places that the form has."""
+        """A message about a name that is used outside of the form that binds it, and the places of this form."""
         word = {'from': 'query'}.get(self.form.head(), self.form.head())
         begins = (self.form.start, 'this %s has it' % word)
         if self.form.start < node.start < self.form.end:
@@ -1029,14 +1035,15 @@ class Binding:
 
 
 def binding_of(around, node):
-    """The last form of a model or a view that binds a name before it is asked for, or else the first one, or None."""
+    """The form that binds the name of this node elsewhere in its model or view: the last such form before the node, or
+    else the first one after it, or None."""
     found = [one for one in bindings_in(around) if node.value in one.names()]
     before = [one for one in found if one.form.start < node.start]
     return (before[-1:] or found[:1] or [None])[0]
 
 
 def bindings_in(node):
-    """The forms below a tree that bind names, in the order of the text; those of templates too."""
+    """The forms in a tree that bind names, also those in templates, in the order of the text."""
     left = [(node, False)]
     while left:
         one, is_tag = left.pop()
@@ -1046,17 +1053,17 @@ def bindings_in(node):
             continue
         if word in OPERANDS_OF_BINDERS and len(parts) >= OPERANDS_OF_BINDERS[word]:
             yield Binding(one, is_tag)
-        # the query of a for is a part of it
+        # the query of a for isn't a form of its own
         below = parts[0].children[1:] + parts[1:] if word == 'for' and parts else one.children
         left += [(child, is_tag) for child in reversed(below)]
 
 
-# the forms that bind names, and the operands that they have at least; a field may have such a name too
+# The forms that bind names, each with its least number of operands. A field may be named like such a form.
 OPERANDS_OF_BINDERS = {'create': 3, 'let': 2, 'for': 1, 'from': 3}
 
 
 def statements_of(node):
-    """The statements that a template's text writes, a `put` for each piece of literal text; it has no fault."""
+    """The statements that replace a template without a fault, with a `put` for each piece of literal text."""
     text, places = node.value, node.places
     stack, current, at = [], [], 0
 
@@ -1100,7 +1107,7 @@ def statements_of(node):
 
 
 def templates_in(node):
-    """The templates among statements, in reading order."""
+    """The texts of the templates in a tree, in reading order."""
     left = [node]
     while left:
         one = left.pop()
@@ -1110,10 +1117,10 @@ def templates_in(node):
             left += reversed(one.children)
 
 
-# The fault of a line.
+# The fault that a line of the program reports.
 
 def fault_of(data, line):
-    """What the program's line means in this text, or None where this reading finds another fault."""
+    """Returns or raises the fault that the program's line reports in this text. Returns None if it isn't found here."""
     try:
         tree = read_tree(data, list(range(len(data) + 1)))
     except TreeFault as fault:
@@ -1149,7 +1156,7 @@ def fault_of(data, line):
 
 
 def misplaced(tree, path, node, want):
-    """The tree that is meant, and what to say of one that would be right at another place, or nothing."""
+    """The tree to mark, and a message if it would be right at another place, or ''."""
     parent = at_path(tree, path[:-1]) if path else None
     if want == 'item' and parent is tree:
         views = [item for item in tree.children[:path[-1]] if item.head() == 'view']
@@ -1178,7 +1185,7 @@ def clash(line, views, number):
 
 
 def line_and_column(data, at):
-    """Counted from 1, the column in characters."""
+    """The line and the column of an offset, both counted from 1, the column in characters."""
     begin = data.rfind(b'\n', 0, at) + 1
     return data.count(b'\n', 0, at) + 1, len(data[begin:at].decode('utf-8', 'replace')) + 1
 
@@ -1200,12 +1207,12 @@ def marked(data, at, end):
 
 
 def part_of(data, at):
-    """The file, the line and the column in a part that a byte is of, where the application is a folder."""
+    """The file, the line and the column in the part that a byte comes from, or None if the application is no folder."""
     return data.place(at) if isinstance(data, assemble.Application) else None
 
 
 def marked_part(data, at, end, path, line, column):
-    """The line of a part with a mark. Where its value was put in, the mark is under what asks for the value."""
+    """The line of a part with a mark under it. If Jinja2 inserted a value there, the mark is under the `[[ .. ]]`."""
     try:
         text = assemble.line_of(path, line)
     except (OSError, IndexError, UnicodeDecodeError):
@@ -1235,7 +1242,7 @@ def where(data, name, at):
 
 
 def view_around(data, at):
-    """The method and path of the view, or the model, that a place lies in, as far as its head can be read."""
+    """Names the view (by method and path) or the model around an offset, or returns None if no head can be read."""
     heads = re.finditer(rb'\(\s*(?:view\s+([a-z]+)\s+"([^"\\\n]*)"|model\s+([A-Za-z0-9_-]+))', data)
     before = [found for found in heads if found.start() <= at]
     if not before:
@@ -1256,7 +1263,7 @@ def shown_fault(data, name, fault):
 
 
 def fault_of_line(data, line):
-    """The fault that the line tells, or None where this reading doesn't find that very line."""
+    """The fault that the program's line reports, or None if this script finds another fault or none."""
     try:
         fault = fault_of(data, line)
     except Fault as found:
@@ -1266,16 +1273,16 @@ def fault_of_line(data, line):
     return fault if fault and fault.line == line else None
 
 
-# Further faults: each unit that has one is taken out, and the program is asked of what is left.
+# Further faults: the part that has a fault is blanked out, and the program checks the rest.
 
 MOST_FURTHER = 5
-MOST_ASKED = 12     # times that the program is asked for them
+MOST_ASKED = 12     # how often the program checks the rest
 ALONE = ('put', 'esc', 'assign', 'update', 'delete', 'redirect')
 
 
 def unit_of(data, at):
-    """The smallest part round a place without which the rest means what it meant: a tag that shows a value, a statement
-    that binds no name, or a view. None where there is none."""
+    """The smallest part around an offset that can be left out without changing the meaning of the rest: a tag that
+    shows a value, a statement that binds no name, or a view. None if there is no such part."""
     tree = read_tree(data, list(range(len(data) + 1)))
     view = next((item for item in tree.children if item.head() == 'view' and item.start <= at < item.end), None)
     if view is None:
@@ -1299,8 +1306,8 @@ def tag_around(text, at):
 
 
 def further(program, data, name, fault):
-    """The faults that the program tells once what has the first one is taken out, and so on, each place once: a part
-    of a folder may be in several views."""
+    """The faults that the program reports after the part with the first fault is blanked out, then the part with the
+    second one, and so on. Each place is reported once, because a part of a folder may be in several views."""
     whole, found, known = data, [], {where(data, name, fault.start)}
     with tempfile.NamedTemporaryFile(prefix='jac-fault-') as file:
         for _ in range(MOST_ASKED):
@@ -1324,7 +1331,7 @@ def further(program, data, name, fault):
 
 
 def report(program, data, name, line):
-    """The fault of the program's line as it is shown, and those that come after it; or nothing."""
+    """The messages about the fault that the program's line reports and about further faults, or ''."""
     fault = fault_of_line(data, line)
     if not fault:
         return ''
@@ -1339,12 +1346,12 @@ def report(program, data, name, line):
     return '\n'.join(shown)
 
 
-# How many applications the commands take that take one.
+# How many applications each command takes. Other commands take none.
 TAKEN = {'check': 1, 'replay': 1, 'serve': 1, 'dump': 1, 'upgrade': 2, 'why': 1}
 
 
 def places_of_applications(words):
-    """Where the applications are among the words of a command."""
+    """The positions of the applications among the arguments of a command."""
     found, place, plain = [], 1, False
     while place < len(words):
         word = words[place]
@@ -1359,12 +1366,12 @@ def places_of_applications(words):
 
 
 def applications_in(words):
-    """The files and folders of the applications among the words of a command."""
+    """The files and folders of the applications among the arguments of a command."""
     return [words[place] for place in places_of_applications(words)]
 
 
 def refusal(program, name):
-    """The line by which the program refuses this application, or None."""
+    """The line with which the program refuses this application, or None."""
     told = subprocess.run([program, 'check', '--', name], stdin=subprocess.DEVNULL, stdout=subprocess.PIPE,
                           stderr=subprocess.DEVNULL, check=False, close_fds=False)
     line = told.stdout.decode('utf-8', 'replace').rstrip('\n')
@@ -1406,11 +1413,11 @@ def tell(words):
 
 
 LINES_REFUSED, STORE_FAULT, OTHER_SCHEMAS = 3, 6, (9, 11)
-MOST_LINES = 1 << 24    # bytes of the longest file of events
+MOST_LINES = 1 << 24    # the most bytes of a file of sessions or events that is read here
 
 
 def told_of_lines(program, words):
-    """The first line of the sessions, or else of the events, that the program refuses, and further ones; or nothing."""
+    """Messages about the lines that the program refuses, of the sessions or else of the events, or ''."""
     return told_of_sessions(program, commands.value_of(words, '--sessions')) or \
         shown_lines(program, commands.events(words), run_lines.faults_of_events, lambda name: ['--', name])
 
@@ -1420,7 +1427,7 @@ def told_of_sessions(program, name):
 
 
 def shown_lines(program, name, reader, words_of):
-    """The faults of a file of lines as they are shown, where the program says of the first one what is said here."""
+    """Messages about the faults in a file of lines, or '' if the program doesn't report the same first fault."""
     if not name or not os.path.isfile(name) or os.path.getsize(name) > MOST_LINES:
         return ''
     try:
@@ -1436,7 +1443,7 @@ def shown_lines(program, name, reader, words_of):
 
 
 def last_line(program, words):
-    """The last line that the program puts where an application without views is given these words."""
+    """The last line that `replay` prints for an empty application and these arguments."""
     with tempfile.NamedTemporaryFile(prefix='jac-fault-') as app, tempfile.TemporaryFile() as out:
         app.write(b'(app)')
         app.flush()
@@ -1447,7 +1454,7 @@ def last_line(program, words):
 
 
 def told_of_fault(words, is_refused):
-    """What is the matter with the store that the program refused, or may be about to, or nothing."""
+    """What is wrong with the store that the program refused or may be about to refuse, or ''."""
     import store_faults
     store = commands.value_of(words, '--db')
     most = store_faults.MOST_COPIED if is_refused else store_faults.MOST_COPIED_BEFORE
@@ -1455,7 +1462,7 @@ def told_of_fault(words, is_refused):
 
 
 def told_of_store(words):
-    """What to say where the store isn't one of the application, or nothing."""
+    """A message if the store belongs to another application or another version, or ''."""
     import application
     import schema
     try:

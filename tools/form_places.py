@@ -1,12 +1,13 @@
 #!/usr/bin/env python3
-"""Lists the files in which a form of the language stands, with the lines: those of the crates, lowest crate first, and
-then those of checks, tools, editors and docs/LANGUAGE.md. Cases and applications that use the form are only counted.
+"""Lists the files and lines that contain a form (construct) of the language: first those of the crates, lowest crate
+first, then those of checks, tools, editors and docs/LANGUAGE.md. Cases and applications that use the form are only
+counted.
 
-A new form has to stand where the form most like it stands, so list that one first. When the reader knows the new form,
---like lists what is left: the files in which the other form stands, and the new one doesn't.
+A new form belongs in the same files as the form that is most like it, so list that one first. Once jac_forms reads the
+new form, --like lists what is left to do: the files that contain the other form, but not the new one.
 
-A form is found by its word, by its names in jac_forms and jac_lang, and by the functions that are called for it alone. So
-a file that has a word of the same spelling may be listed, and a lemma or a helper of other helpers isn't."""
+A form is found by its word, by its names in jac_forms and jac_lang, and by the functions that are called only for it.
+So a file with another word of the same spelling may be listed, and a lemma or a helper's helper isn't listed."""
 import argparse
 import functools
 import os
@@ -41,7 +42,7 @@ def text_of(path):
 
 
 def names(word):
-    """The type of a form in jac_lang, its name there, and its name in specs/ where it has one; None of no form."""
+    """The type of a form in jac_lang, its name there, and its name in specs/ or None. None if there is no such form."""
     for path, kind in (('words', 'Expr'), ('steps', 'Stmt')):
         text = text_of('crates/jac_forms/src/%s.rt' % path)
         found = re.search(r'"%s"(?: => |\s*\{\s*)Some\((?:\w+::)?(\w+)::(\w+)\)' % re.escape(word), text)
@@ -53,7 +54,7 @@ def names(word):
 
 
 def helpers(kind, name):
-    """The functions that are called for this form, and for no other one."""
+    """The functions that are called only for this form."""
     own, others = set(), set()
     for path in (path for path in files('crates') if path.endswith('.rt')):
         for form, called in re.findall(r'\b%s::(\w+)\b[^=;]{0,120}=> (?:\{\s*)?(\w+)\(' % kind, text_of(path)):
@@ -62,7 +63,7 @@ def helpers(kind, name):
 
 
 def pattern(word, kind, name, twin):
-    """What a line of a place has."""
+    """The pattern that a line with the form matches."""
     code, logic, plain = KINDS[kind]
     called = helpers(kind, name) | {'%s_%s' % (verb, word) for verb in ('mean', 'run')} | {word + '_verdict'}
     parts = [r'\b(?:%s)::%s\b' % (code, name), r"\b(?:%s)\.%s'?(?![\w'])" % (logic, name),
@@ -71,7 +72,7 @@ def pattern(word, kind, name, twin):
 
 
 def found_in(path, wanted, word, name, twin):
-    """The numbers of the lines of a file in which the form stands."""
+    """The numbers of the lines of a file that contain the form."""
     own = [wanted.pattern]
     if path.startswith('editors'):
         own = [r'^%s\s|[|(]%s\\?[|)]' % ((re.escape(word),) * 2)]
@@ -86,7 +87,7 @@ def found_in(path, wanted, word, name, twin):
 
 
 def places(word):
-    """Each file in which the form stands, with the numbers of its lines."""
+    """Each file that contains the form, with the numbers of the lines."""
     if names(word) is None:
         return
     kind, name, twin = names(word)
@@ -103,7 +104,7 @@ def places(word):
 
 
 def used(word):
-    """How many cases, and how many other files of applications and pages, have the form in brackets."""
+    """How many cases, and how many other files of applications and pages, contain the form in brackets."""
     form = re.compile(r'\(%s[ )]' % re.escape(word))
     cases = [path for path in files('checks/cases') if form.search(text_of(path))]
     rest = [path for top in ('examples', 'tools/new', 'checks/linted', 'docs', 'crates/jac_main/data') for path in files(top)
@@ -113,8 +114,8 @@ def used(word):
 
 def main():
     words = argparse.ArgumentParser(description=__doc__, formatter_class=argparse.RawDescriptionHelpFormatter)
-    words.add_argument('word', help='a form of an expression or of a statement, as not or redirect')
-    words.add_argument('--like', metavar='OTHER', help='list the files in which OTHER stands, and the form doesn\'t')
+    words.add_argument('word', help='a form of an expression or of a statement, such as not or redirect')
+    words.add_argument('--like', metavar='OTHER', help='list the files that contain OTHER, but not the form')
     words.add_argument('--lines', action='store_true', help='show each line, as grep does')
     given = words.parse_args()
     shown = given.like or given.word

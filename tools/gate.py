@@ -1,6 +1,6 @@
-"""What a gate under way takes, crate by crate: the processor time of each prover, and its most memory, as the system tells
-them twice a second until it ends. What a prover does behind the last look at it isn't counted, which is a quarter of a
-second of each on the average."""
+"""Measures a running gate, crate by crate: the processor time and the peak memory of each prover. It reads them from
+/proc twice a second, until the gate ends. What a prover does after the last look at it isn't counted: a quarter of a
+second of each prover, on average."""
 import json
 import os
 import re
@@ -17,7 +17,7 @@ CRATE = re.compile(r'--crate-name (\w+) ')
 
 
 class Prover:
-    """One process: its seconds of a processor and its most bytes, by the last look at it."""
+    """A prover process: its processor seconds and its peak memory in bytes, at the last look."""
 
     def __init__(self, words, folder):
         self.words, self.folder, self.seconds, self.most = words, folder, 0, 0
@@ -27,7 +27,8 @@ class Prover:
         self.most = max(self.most, int(fields[21]) * PAGE_SIZE)
 
     def step(self):
-        """Which crate it worked on, and whether on its proof, on that of its tests, or on its edits; or none."""
+        """The step and the crate that it worked on, or None. The step is the proof, the proof of the tests, or the
+        wrong bodies (edits)."""
         found = CRATE.search(self.words)
         if not found:
             return None
@@ -38,7 +39,7 @@ class Prover:
 
 
 def fields_of(process):
-    """What the system tells of a process behind its name: its state, its parent and so on."""
+    """The fields after the name of a process in /proc/PID/stat: its state, its parent and so on."""
     with open('/proc/%d/stat' % process) as file:
         return file.read().rpartition(')')[2].split()
 
@@ -49,14 +50,14 @@ def words_of(process):
 
 
 class Gate:
-    """The gate of a clone, from its beginning to its end, over all crates or over those of these names."""
+    """A run of `rt ci` in a clone, for all crates or for those with these names."""
 
     def __init__(self, folder, names):
         self.began, self.processors, self.provers = time.monotonic(), processors(), {}
         self.process = subprocess.Popen(['rt', 'ci', *names], cwd=folder, stdin=subprocess.DEVNULL)
 
     def run(self):
-        """Waits until it ends, and returns its status."""
+        """Waits until the gate ends, and returns its exit status."""
         while self.process.poll() is None:
             self.look()
             time.sleep(LOOK)
@@ -103,9 +104,9 @@ class Gate:
 
 
 class Measures:
-    """What gates took that were measured on this machine since it was started anew: of each the minutes by the clock and
-    how many processors it had, and by step and crate the processor minutes and the most MB of the last gate that had to
-    do it."""
+    """The measurements of gates on this machine, in a file in the temporary directory. For each gate: the elapsed
+    minutes and the number of processors. For each step and crate: the processor minutes and the most MB, from the last
+    gate that ran this step."""
 
     def __init__(self, folder=tempfile.gettempdir()):
         self.path = os.path.join(folder, 'jac-gate-measures.json')
@@ -113,15 +114,15 @@ class Measures:
         if os.path.isfile(self.path):
             with open(self.path, encoding='utf-8') as file:
                 kept = json.load(file)
-            # a run that an earlier version kept is its minutes alone
+            # a run may be its minutes alone, if an earlier version of this script wrote the file
             self.runs = [tuple(run) if isinstance(run, list) else (run, None) for run in kept['runs']]
             self.found = {(what, name): (minutes, most) for what, name, minutes, most in kept['steps']}
 
     def add(self, gate):
-        """Adds what the gate did, and keeps it."""
+        """Adds the measurements of a gate, and writes the file."""
         found = gate.found()
         if found.keys() >= self.found.keys():
-            # it did all that those before it did, so nothing of theirs is left
+            # this gate ran all steps of the earlier ones, so none of their measurements is left
             self.runs = []
         self.runs.append((gate.minutes, gate.processors))
         self.found.update(found)
@@ -132,7 +133,7 @@ class Measures:
 
 
 def measured(folder, names):
-    """All that was measured, with the gate that is run there, or the end of this script, where it failed."""
+    """Runs the gate there, and returns all measurements. Ends this script if the gate fails."""
     gate, measures = Gate(folder, names), Measures()
     status = gate.run()
     measures.add(gate)

@@ -1,4 +1,4 @@
-"""What a viewer is shown of a store and what not, as `jac why` and `tools/why.py` say it."""
+"""Asks `jac why` and `tools/why.py` what a viewer is shown of a store, and what is hidden."""
 import os
 import re
 import subprocess
@@ -8,14 +8,14 @@ WHY = os.path.join(os.path.dirname(os.path.abspath(__file__)), 'why.py')
 
 
 class Fault(Exception):
-    """The program put no answer: its line, and what it said on standard error."""
+    """The program failed: the line that it printed, and its standard error."""
 
     def __init__(self, line, told):
         super().__init__('\n'.join(part for part in (line, told) if part))
 
 
 def output_of(words):
-    """The status of a command and what it put, on standard output and on standard error."""
+    """The exit status of a command, its standard output and its standard error."""
     done = subprocess.run(words, stdin=subprocess.DEVNULL, stdout=subprocess.PIPE, stderr=subprocess.PIPE, check=False)
     out, told = (text.decode('utf-8', 'replace').rstrip('\n') for text in (done.stdout, done.stderr))
     return done.returncode, out, told
@@ -26,7 +26,7 @@ def labels_of(text):
 
 
 def asked(program, command, text, word, store):
-    """The lines of a command that reads a store."""
+    """The lines that a command prints about a store."""
     status, out, told = output_of([program, command, '--db', store, '--', text, word])
     if status:
         raise Fault(out[-500:], told)
@@ -34,8 +34,8 @@ def asked(program, command, text, word, store):
 
 
 def why(program, text, app, viewer, store):
-    """The labels that the viewer is shown, and for each other one what hides it, in words. `text` is the file of the
-    application's text, and `app` what it is called."""
+    """The labels that the viewer is shown, and for each other label the reason in words. `text` is the file with the
+    application's text, and `app` is its name in messages."""
     lines = asked(program, 'why', text, viewer, store)
     hidden = [int(line.partition(' ')[0]) for line in lines[1:]]
     with open(store + '-lines', 'w', encoding='utf-8') as file:
@@ -45,7 +45,8 @@ def why(program, text, app, viewer, store):
 
 
 def in_words(app, text, store, count):
-    """What `why.py` says of so many hidden labels. A line that isn't indented begins what is said of the next one."""
+    """What `why.py` prints about each of `count` hidden labels, or '' for each if it fails. A line that isn't indented
+    begins the text about the next label."""
     for words in [app, store + '-lines', '--db', store], [text, store + '-lines', '--db', store], [text,
                                                                                                    store + '-lines']:
         status, out, _ = output_of([sys.executable, WHY, *words])
@@ -56,5 +57,5 @@ def in_words(app, text, store, count):
 
 
 def reason(block):
-    """What is said below the first line, with the indent that it has beyond that of its first line."""
+    """The lines after the first one, each without the first four columns, which are indent."""
     return '\n'.join(line[4:].rstrip() for line in block.split('\n')[1:])

@@ -1,8 +1,11 @@
 #!/usr/bin/env python3
-"""Tells each name that a file brings in from a crate's specs/ or proofs/ and that isn't there, and each that an .antt file
-uses and doesn't bring in, in some seconds: a check of the crate tells it too, after its whole proof. It reads texts alone.
-A name that two lines could mean counts as there; one is looked for only where some other file brings it in, and counts as
-bound wherever its own file has it before a colon, an equals sign, an arrow of a case or the dot of a λ."""
+"""Lists the names that a file imports from a crate's specs/ or proofs/ and that aren't there, and the names that an
+.antt file uses and doesn't import. This takes some seconds. A check of the crate finds these faults too, but only after
+its whole proof.
+
+The script only reads text, so it may overlook a fault. A name counts as there if any line may define it. A use without
+an import is only found if some other file imports the name. A name counts as bound if its file has it before a colon,
+an equals sign, the arrow of a case or the dot of a λ."""
 import os
 import re
 import subprocess
@@ -22,15 +25,15 @@ USE = re.compile(r'(?m)^[ \t]*(?:pub )?(?:ghost )?use [^\n]*')
 NAME = r"[^\W\d][\w'≢-]*"
 TOKEN = re.compile(r"[.◌+*-]?%s◌?|\S" % NAME)
 PLAIN = re.compile(NAME + '$')
-# What the names that a sign binds stand behind.
+# For each sign that binds the names before it: the characters after which these names begin.
 BEGINS = {':': '({[→', '=': ';{', '↦': '|[', '.': 'λ'}
 HELD = {'let', 'in', '=', ':'}
-# Words of the prover's own.
+# Words of the prover itself.
 OWN = {'at', 'rw'}
 
 
 def names_of(group):
-    """The names of a group and what the file calls them."""
+    """The names of an import's group, each with the name that the file uses for it."""
     for entry in group.split(','):
         name, _, alias = entry.strip().partition(' as ')
         if WORD.match(name.strip()):
@@ -38,14 +41,14 @@ def names_of(group):
 
 
 def given_by(text):
-    """The names that a file of specs/ or proofs/ has, its own and those that it brings in."""
+    """The names that a file of specs/ or proofs/ defines or imports."""
     names = {name for head in HEADS for name in head.findall(text)}
     names.update(alias for group in GROUP.findall(text) for _, alias in names_of(group))
     return names
 
 
 def brought_in(text):
-    """The names that a file brings in, as it calls them, operators without their places."""
+    """The names that a file imports, as the file uses them, operators without the marks of their operands."""
     names = set()
     for line in USE.findall(text):
         group = re.search(r'\{([^}]*)\}', line)
@@ -71,7 +74,7 @@ def bound_in(line, tokens):
 
 
 def lacked(text, brought, known):
-    """The names that a file uses, that others bring in, and that this one neither has nor brings in."""
+    """The names that a file uses and other files import, and that this file neither defines nor imports."""
     body = re.sub(r'"(?:[^"\\\n]|\\.)*"|--[^\n]*', '', USE.sub('', text))
     used, bound = set(), set(re.findall(r'(?:^|\W)(?:pub|record|data|module) (?:record |data )?(%s)' % NAME, body))
     for line in body.split('\n'):

@@ -1,5 +1,5 @@
-"""The kit's command `rt`: where it stands, and its module, which knows what a crate's code stands on and how it is
-checked."""
+"""The kit's command `rt`: its path, and its Python module, which knows the dependencies of a crate's code and how a
+crate is checked."""
 import fcntl
 import importlib.machinery
 import importlib.util
@@ -9,7 +9,7 @@ import sys
 
 
 def path():
-    """The path of `rt`. Where there is none, that is said, and the script ends as one that builds nothing."""
+    """The path of `rt`. If it isn't installed, says so and ends the script with exit status 70 (nothing is built)."""
     found = shutil.which('rt')
     if found is None:
         print('jac: there is no rt here; CONTRIBUTING.md says what is needed to build the program', file=sys.stderr)
@@ -25,8 +25,9 @@ def load():
 
 
 def remember_stamps(rtlib, own=None):
-    """Has the sum of a crate's text be made once, and not again for each crate above it: at the top of the crates that is
-    ten seconds and more. The crate in the folder `own` is left out: of its text `rt` asks behind its proof as well."""
+    """Caches the checksum of each crate's text. Without the cache it is computed again for each crate above, which
+    takes ten seconds or more for the topmost crates. The crate in the folder `own` isn't cached, because `rt` needs the
+    checksum of its text again after its proof."""
     make, found = rtlib.Crate.stamp, {}
 
     def stamp(crate):
@@ -40,8 +41,8 @@ def remember_stamps(rtlib, own=None):
 
 
 def share_below(rtlib):
-    """Has a call hold the crates below beside other such calls, which read them alike, and its own crate alone. `rt` itself
-    holds them all alone, so two of its calls in one clone wait for each other."""
+    """Makes a call of `rt` take shared locks of the lower crates, which it only reads, and an exclusive lock of its own
+    crate. By itself `rt` takes exclusive locks of all of them, so two calls in one clone wait for each other."""
     def lock(crates):
         folders, held = {os.path.realpath(crate.folder): fcntl.LOCK_SH for crate in crates[:-1]}, []
         folders[os.path.realpath(crates[-1].folder)] = fcntl.LOCK_EX

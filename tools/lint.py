@@ -1,30 +1,31 @@
 #!/usr/bin/env python3
-"""The linter: places to look at in an application that is served, each with its line, its column and what it means.
+"""The linter. It lists places to look at in an application that `jac check` accepts, each with its line, its column and
+what it means.
 
-It never says that something is wrong, and it says nothing of what it doesn't find. The kinds are
+A place that it lists may be right, and a place that it doesn't list may be wrong. The kinds are
 
-  write     a post view sets a guarded field from what was sent, and nothing asks who the viewer is
-  unasked   a post view changes what a policy or a check of the viewer reads, and nothing asks who the viewer is
-  branch    a write depends on what may be hidden: what it stores is there for those alone who are shown that
-  nobody    a reference is compared with viewer, and nothing asks (live viewer): none equals none, for a stranger. So is
-            a field with one of the viewer's, since a stranger's are none, 0, false and empty
-  copy      a guarded field, or one of a hidden record, is stored elsewhere by a view that deletes such a record
-  sum       guarded numbers are added up, by a sum or in a loop: a hidden one counts as its public value
+  write     a post view sets a guarded field from a parameter, and no condition asks who the viewer is
+  unasked   a post view changes what a policy or a check of the viewer reads, and no condition asks who the viewer is
+  branch    a write depends on something that may be hidden: only those who are shown it see what the write stores
+  nobody    a reference is compared with viewer, and nothing asks (live viewer): for a stranger viewer is none, and none
+            equals none. Or a field is compared with a field of the viewer: a stranger's are none, 0, false or empty
+  copy      a view stores a guarded field (or a field of a hidden record) elsewhere, and deletes such a record
+  sum       guarded numbers are added up, by a sum or in a loop: a hidden number counts as its public value
   markup    a text that the application doesn't fix is put unescaped
   escape    a text is escaped where that doesn't protect the page: an attribute without quotes, a script, an address
-  redirect  a redirect leads where a parameter or a stored text says
-  unlinked  no page leads to a view. Nothing is said where a link or a redirect is computed, or where no page has a link
+  redirect  a redirect leads to where a parameter or a stored text says
+  unlinked  no page leads to a view. Not listed if a link or a redirect is computed, or if no page has a link
 
-docs/LANGUAGE.md, "Writing", says more of each. What was looked at is kept in a file beside the application, of the same
-name with .accepted after it (in a folder: app.accepted). An entry is the line that is shown after "accepted as", and
-below it, indented, the reason:
+docs/LANGUAGE.md, "Writing", says more about each kind. If a place is right, add an entry to a file beside the
+application. The file has the application's name with .accepted at its end (in a folder: app.accepted). An entry is the
+line that is printed after "accepted as". The reason follows on indented lines:
 
   view post /setup: unasked Person.chair
-      Anybody may press it, and it does something only where there is nobody.
+      Anybody may press it, and it does something only if nobody is there yet.
 
-An entry speaks of all places of its kind in its view, wherever they move. An entry for which nothing is found any more
-is told. The exit status is 0 where there is nothing to look at, 1 where there is, and 2 where the application isn't one
-that is served or the file of what was accepted can't be read: an entry without a reason is refused."""
+An entry accepts all places of its kind and subject in its view, even after they move. An entry that matches no place
+any more is reported. The exit status is 0 if there is nothing to look at, and 1 if there is something. It is 2 if the
+application is refused, or if the file of accepted places can't be read or has an entry without a reason."""
 import argparse
 import os
 import re
@@ -41,11 +42,11 @@ ENTRY = re.compile(r'((?:view (?:get|post) /\S*|model \S+): (%s)(?: .+)?)' % '|'
 
 
 class Refused(Exception):
-    """What stands against a file of accepted places, a line each."""
+    """The faults of a file of accepted places, one on each line."""
 
 
 class Accepted:
-    """The entries of a file: for each the number of its line, and its reason."""
+    """The entries of a file, each with the number of its line and its reason."""
 
     def __init__(self, name, text):
         self.name, self.entries, wrong, entry = name, {}, [], None
@@ -69,7 +70,7 @@ class Accepted:
             raise Refused('\n'.join(wrong))
 
     def stale(self, found):
-        """What is told of the entries that nothing is found for."""
+        """Messages about the entries that match no place."""
         entries = {one.entry() for one in found}
         return ['%s:%d: no longer applies, nothing like it is found: %s' % (self.name, number, entry)
                 for entry, (number, _) in self.entries.items() if entry not in entries]
@@ -81,12 +82,12 @@ def read_application(name):
 
 
 def accepted_name(application):
-    """The file beside an application, or in its folder, that has what was accepted."""
+    """The file of accepted places, beside an application or in its folder."""
     return os.path.join(application, 'app.accepted') if os.path.isdir(application) else application + '.accepted'
 
 
 def misplaced(application):
-    """Files beside an application, or in its folder, that look as if they had what was accepted, and aren't read."""
+    """Files beside an application, or in its folder, that look like files of accepted places but aren't read."""
     whole = os.path.normpath(application)
     names = [whole + '.accepted', os.path.join(whole, 'main.accepted'), os.path.splitext(whole)[0] + '.accepted']
     read = os.path.normpath(accepted_name(application))
@@ -104,8 +105,8 @@ def read_accepted(name):
 
 
 def shown(data, name, found):
-    """The lines of places of which the same is said: where the first is and what it means, the text with a mark under
-    it, where the others are, and what accepts them."""
+    """The message about places with the same entry and the same words: the first place and what it means, the text with
+    a mark under it, the other places, and the entry that accepts them."""
     first, *others = found
     lines = ['%s: look at this, in the %s: %s' % (fault_place.where(data, name, first.start), first.place, first.words),
              fault_place.marked(data, first.start, first.start + 1)]
@@ -115,7 +116,7 @@ def shown(data, name, found):
 
 
 def looked(data, name, accepted):
-    """What is to be said of an application's text, given what was accepted, and how many entries were."""
+    """The messages about an application's text, without the accepted places, and how many entries match a place."""
     found, groups = lint_rules.found_in(data), {}
     for one in found:
         if one.entry() not in accepted.entries:
@@ -126,8 +127,8 @@ def looked(data, name, accepted):
 
 def options(words):
     parser = argparse.ArgumentParser(description=__doc__, formatter_class=argparse.RawDescriptionHelpFormatter)
-    parser.add_argument('application', help='the file of the application')
-    parser.add_argument('--accepted', metavar='FILE', help='the file of what was accepted, where it is another one')
+    parser.add_argument('application', help='the file or the folder of the application')
+    parser.add_argument('--accepted', metavar='FILE', help='the file of accepted places, if it has another name')
     return parser.parse_args(words)
 
 

@@ -1,5 +1,5 @@
-"""What there is to look at in the text of an application. `found_in` answers it for a text, and tools/lint.py prints it
-and says what each kind means. Nothing here says that an application is wrong."""
+"""The rules of the linter. `found_in` returns the places to look at in the text of an application. tools/lint.py prints
+them, and its docstring says what each kind means. A place to look at needn't be wrong."""
 import collections
 import itertools
 import os
@@ -13,14 +13,14 @@ from markup import Markup                                                   # no
 
 KINDS = ('write', 'unasked', 'branch', 'nobody', 'copy', 'sum', 'markup', 'escape', 'redirect', 'unlinked')
 STORES = {'create': 'a create', 'update': 'an update', 'delete': 'a delete'}
-# What tells a name from another one of the same view that is spelled alike; no name of an application has it.
+# Follows a name that is bound again in a view, before a number. No name of an application has this character.
 AGAIN = '\''
-# How many texts that a place may have before it are kept apart.
+# The most texts before a place that are told apart.
 MOST = 64
-# How the text begins that leads within this site, or to one that the application names.
+# The beginning of a location within this site, or at a site that the application names.
 OWN_SITE = re.compile(r'/[^/\\]|[?#]|\.{1,2}/|https?://[^/?#]+[/?#]|[A-Za-z0-9_-]+[/?#]')
 
-# What is said of each kind.
+# The messages of each kind.
 SETS_GUARDED = (
     'whoever sends this form sets the guarded %s of %s: no condition around it asks who the viewer is. If '
     'somebody to whom it is hidden saves a form that was filled from it, its public value is stored over it')
@@ -62,14 +62,14 @@ UNLINKED = 'no page of this application leads here by a link, a form or a redire
 
 
 class NotServed(Exception):
-    """The text is no application that is served."""
+    """The text isn't a valid application."""
 
 
 class Found(collections.namedtuple('Found', 'start place kind subject words')):
-    """One place to look at: the byte where it begins, the view or model, the kind, what it is about, and why."""
+    """One place to look at: its offset, its view or model, its kind, its subject and its message."""
 
     def entry(self):
-        """What it is accepted by: it stays the same as long as the view, the kind and the subject do."""
+        """The entry that accepts it. It has only the view or model, the kind and the subject."""
         return '%s: %s' % (self.place, ' '.join(filter(None, (self.kind, self.subject))))
 
 
@@ -79,7 +79,7 @@ Read = collections.namedtuple('Read', 'node subject words')
 
 
 def found_in(data):
-    """The places of an application's text, in the order of the text. Raises NotServed."""
+    """The places to look at in an application's text, in the order of the text. Raises NotServed."""
     try:
         tree = fault_place.read_tree(data, list(range(len(data) + 1)))
         if not is_application(tree):
@@ -93,7 +93,7 @@ def found_in(data):
 
 
 def is_application(tree):
-    """Whether the items have the form of models and views, as far as the rules need it. The checker looks at kinds."""
+    """Whether the items are models and then views, in a form that the rules can read. The checker tests kinds."""
     items = tree.children[1:]
     if items and items[0].head() == 'viewer':
         items = items[1:]
@@ -107,7 +107,7 @@ def is_application(tree):
 # The text, with the kind of each expression.
 
 class Kinds(fault_place.Checker):
-    """The checker, which also notes which kind each expression has."""
+    """The checker, which also notes the kind of each expression."""
 
     def statement(self, node, scope, is_get, loops):
         if node.head() == 'template':
@@ -121,14 +121,14 @@ class Kinds(fault_place.Checker):
 
 
 def written(template):
-    """The statements that a template writes, which are made once."""
+    """The statements that replace a template. They are made only once."""
     if not hasattr(template, 'statements'):
         template.statements = fault_place.statements_of(template.children[1])
     return template.statements
 
 
 def inside(node):
-    """The expressions in an expression or a query, itself among them: no names of models, fields and binders."""
+    """The expressions in an expression or a query, itself included, without names of models, fields and binders."""
     left = [node]
     while left:
         one = left.pop()
@@ -143,14 +143,14 @@ def inside(node):
 
 
 def meaning(node):
-    """What a name stands for that one `let` binds and no `assign` changes; any other expression is itself."""
+    """The value of a name, if one `let` binds it and no `assign` changes it; else the expression itself."""
     while getattr(node, 'means', None) is not None:
         node = node.means
     return node
 
 
 def spelled_out(node):
-    """The expressions in an expression, with those in what its names stand for."""
+    """The expressions in an expression, and those in the values of its names."""
     for one in inside(node):
         yield one
         if meaning(one) is not one:
@@ -162,13 +162,13 @@ def is_viewer(node):
 
 
 def is_of_viewer(node):
-    """Whether a field is read of the viewer, or of a record that such a field refers to."""
+    """Whether this expression reads a field of the viewer, or of a record that such a field refers to."""
     node = meaning(node)
     return node.head() == 'get' and (is_viewer(node.children[3]) or is_of_viewer(node.children[3]))
 
 
 def spelled(name):
-    """A name as the application has it."""
+    """A name as the application spells it."""
     return name.partition(AGAIN)[0]
 
 
@@ -180,7 +180,8 @@ def text_of(node):
 
 
 def fact_of(node):
-    """An expression as one text, by which two are one that are written alike but for names of what is written out."""
+    """An expression as a text in which names are replaced by their values. Two expressions that differ only in such
+    names have the same text."""
     node = meaning(node)
     if node.kind != 'list':
         return node.value if node.kind == 'atom' else repr(node.value)
@@ -188,7 +189,7 @@ def fact_of(node):
 
 
 class Apart:
-    """Tells the names of a view apart: one that is bound again has a number after it from there on."""
+    """Makes the names of a view unique: a name that is bound again gets a number."""
 
     def __init__(self, view):
         self.counts = {}
@@ -198,7 +199,7 @@ class Apart:
         self.statements(view.children[4:], names)
 
     def bind(self, node, names):
-        """Binds a name, in these names."""
+        """Binds a name, and adds it to `names`."""
         word = node.value
         self.counts[word] = self.counts.get(word, 0) + 1
         node.value = names[word] = word if self.counts[word] == 1 else '%s%s%d' % (word, AGAIN, self.counts[word])
@@ -245,7 +246,7 @@ class Apart:
         return inner
 
     def query(self, node, names):
-        """The names inside of a query."""
+        """Makes the names of a query unique, and returns the names that are known inside it."""
         inner, order = dict(names), node.children[3]
         own = {}
         for binder in node.children[1].children:
@@ -304,7 +305,7 @@ class View:
                 node.means = self.values[node.value][0]
 
     def names_sent(self):
-        """The names that are bound to what was sent, as it is or computed."""
+        """The names whose values come from parameters, as they are or computed."""
         sent, before = set(self.params), None
         while sent != before:
             before = set(sent)
@@ -321,7 +322,7 @@ class View:
             left += reversed(list(self.below(*step)))
 
     def below(self, node, conditions):
-        """The statements right inside a statement."""
+        """The statements directly inside a statement, with the conditions around them."""
         word, parts = node.head(), node.children[1:]
         below = []
         if word == 'if':
@@ -341,7 +342,7 @@ class View:
             yield Step(one, conditions)
 
     def meant(self, node):
-        """The expressions in an expression, with those that its names depend on."""
+        """The expressions in an expression, and those that its names depend on."""
         seen, left = set(), [node]
         while left:
             for one in inside(left.pop()):
@@ -358,7 +359,8 @@ class View:
 
 
 def in_turn(condition):
-    """A condition around an `assign`; where it is a query with an order, the value depends on that too."""
+    """What an `assign` depends on because of a condition around it: the condition, and the first record of a query with
+    an order, because the value depends on the order too."""
     if condition.head() == 'from' and condition.children[3].kind == 'list':
         word = fault_place.Node('atom', condition.start, condition.start, 'first')
         return [condition, fault_place.Node('list', condition.start, condition.end, None, [word, condition])]
@@ -366,7 +368,8 @@ def in_turn(condition):
 
 
 def names_in(node, names):
-    """Whether a value was sent, as it is or computed; what is read from a record that was named wasn't."""
+    """Whether a value comes from these names, as they are or computed. What is read from a record doesn't, even if one
+    of these names refers to the record."""
     if node.kind == 'atom':
         return node.value in names
     if node.head() in ('get', 'live', 'count', 'sum', 'some', 'first', None):
@@ -385,7 +388,7 @@ class Policy:
 
 
 class Application:
-    """The text, read and checked, with what its policies read."""
+    """The application, parsed and checked, with what its policies read."""
 
     def __init__(self, tree):
         checker = Kinds(tree)
@@ -405,7 +408,7 @@ class Application:
                 self.note_checks(view, step)
 
     def note_reads(self, policy):
-        """Which fields a policy reads, of the viewer among others, and whose records it finds."""
+        """Notes which fields a policy reads, which of them are the viewer's, and which models' records it finds."""
         for node in inside(policy.condition):
             word = node.head()
             if word == 'get':
@@ -422,8 +425,8 @@ class Application:
                 self.found.setdefault(node.children[-1].value_kind[1], policy.model)
 
     def note_checks(self, view, step):
-        """What the conditions around a write ask of the viewer: the viewer's fields, and records and fields in which
-        the viewer is looked for."""
+        """Notes what the conditions around a write ask about the viewer: the viewer's fields that they read, and the
+        records and fields in which they look for the viewer."""
         place = 'the ' + view.place
         for condition in step.conditions:
             own = condition.node.children[2] if condition.node.head() == 'from' else condition.node
@@ -439,7 +442,8 @@ class Application:
                     self.note_search(node, place)
 
     def note_search(self, query, place):
-        """What is asked where the viewer is looked for: of the viewer, or of records that refer to the viewer."""
+        """Notes which fields a query that looks for the viewer reads: of the viewer, or of records that refer to the
+        viewer."""
         facts, asked = facts_of(query), {}
         for name, model in zip(names_of(query), models_of(query)):
             is_own = {'(eq %s viewer)' % name, '(eq viewer %s)' % name} & facts
@@ -454,12 +458,12 @@ class Application:
         return [view for view in self.views if view.is_post]
 
     def guarded_reads(self, nodes):
-        """The guarded fields that expressions read, each where it is read."""
+        """Those of these expressions that read a guarded field."""
         return [node for node in nodes if node.head() == 'get'
                 and (node.children[1].value, node.children[2].value) in self.guarded]
 
     def hidden_reads(self, nodes):
-        """What expressions read that may be hidden from somebody: guarded fields, and records that a group hides."""
+        """What these expressions read that may be hidden: guarded fields, and records that a group hides."""
         for node in nodes:
             if node.head() == 'get':
                 yield from self.reads_of_get(node, *(child.value for child in node.children[1:3]))
@@ -513,10 +517,10 @@ def hidden_record(node, model, does, own):
     return Read(node, model, HIDDEN_RECORD % (does, whose % model))
 
 
-# Who writes.
+# Writes.
 
 def writes(application):
-    """Guarded fields that are set from what was sent, where nothing asks who the viewer is."""
+    """Guarded fields that are set from parameters, if no condition asks who the viewer is."""
     for view in application.posts():
         for step in view.stores():
             node, word = step.node, step.node.head()
@@ -537,7 +541,7 @@ def writes(application):
 
 
 def unasked(application):
-    """Writes that decide who sees or may do what, where nothing asks who the viewer is."""
+    """Writes that change who sees or may do what, if no condition asks who the viewer is."""
     for view in application.posts():
         for step in view.stores():
             if not view.asks_viewer(step.conditions):
@@ -546,7 +550,7 @@ def unasked(application):
 
 
 def powers(application, node):
-    """What a statement changes that policies, or checks of the viewer, depend on."""
+    """The changes of a statement that policies or checks of the viewer depend on."""
     word = node.head()
     model = node.children[2 if word == 'create' else 1].value
     does = 'makes' if word == 'create' else 'deletes'
@@ -579,7 +583,7 @@ def powers_of_cell(application, word, model, cell):
 
 
 def branches(application):
-    """Writes under a condition that reads what may be hidden."""
+    """Writes that depend on something that may be hidden: in a condition, or in the value that finds their record."""
     for view in application.posts():
         told = set()
         for step in view.stores():
@@ -598,7 +602,7 @@ def branches(application):
                     told |= places
 
 
-# Nobody: where nobody asks, viewer is none, and one none equals another.
+# Nobody: for a stranger viewer is none, and none equals none.
 
 def nobody(application):
     for policy in application.policies:
@@ -618,7 +622,7 @@ def nobody(application):
 
 
 def facts_of(node, holds=True):
-    """What is so where a condition is true, or is false, each as a text."""
+    """The facts that follow from a condition that is true (or false, if `holds` is false), each as a text."""
     node = meaning(node)
     word, parts = node.head(), node.children[1:]
     if word == ('and' if holds else 'or'):
@@ -634,7 +638,7 @@ def facts_of(node, holds=True):
     return {fact_of(node) if holds else '(not %s)' % fact_of(node)}
 
 
-# A field of nobody is false, 0, none, or the empty text.
+# The facts which say that somebody is logged in. A stranger's fields are false, 0, none or the empty text.
 SOMEBODY = re.compile(r'\(live (?:viewer|\(get \S+ \S+ viewer\))\)|\(get \S+ \S+ viewer\)|'
                       r'\(eq \(get \S+ \S+ viewer\) (?:b([\'"]).+\1|-?[1-9][0-9]*)\)|'
                       r'\(lt [0-9]+ \(get \S+ \S+ viewer\)\)|'
@@ -642,13 +646,14 @@ SOMEBODY = re.compile(r'\(live (?:viewer|\(get \S+ \S+ viewer\))\)|\(get \S+ \S+
 
 
 def is_somebody(facts):
-    """Whether these say that somebody asks."""
+    """Whether one of these facts says that somebody is logged in."""
     return any(SOMEBODY.fullmatch(fact) for fact in facts)
 
 
 def strangers(node, holds, certain, facts):
-    """The comparisons with viewer, or with what is read of the viewer, that make a condition hold where nobody asks,
-    each with its two sides. `certain` has the names that are never none, and `facts` what is so besides."""
+    """The comparisons with viewer, or with a field of the viewer, that may make a condition true for a stranger (or
+    false unless `holds`), each with its two sides. `certain` has the names that are never none. `facts` has what else
+    is known to be true."""
     node = meaning(node)
     word, parts = node.head(), node.children[1:]
     if word in ('eq', 'lt'):
@@ -682,8 +687,8 @@ def queries_in(node):
 
 
 def counted(node, holds, certain, facts):
-    """The comparisons in the queries of an `eq`, an `lt`, a `get` or a `live`. A count that is 0, or less than another
-    number, finds nothing."""
+    """The comparisons in the queries of an `eq`, an `lt`, a `get` or a `live`. If a count or a sum is 0, or less than
+    another number, the condition of its query counts as false."""
     parts = node.children[-1:] if node.head() in ('get', 'live') else node.children[1:]
     is_none = node.head() == 'eq' and any(part.is_atom('0') for part in parts)
     for place, part in enumerate(parts):
@@ -693,13 +698,13 @@ def counted(node, holds, certain, facts):
 
 
 def default_of(node):
-    """What a field of nobody is, in words."""
+    """The value that a field has for a stranger, in words."""
     kind = meaning(node).value_kind
     return 'none' if isinstance(kind, tuple) else {'int': '0', 'text': 'the empty text', 'bool': 'false'}[kind]
 
 
 def is_fixed(node):
-    """Whether an expression is written out: with such a one a field of the viewer may well be compared."""
+    """Whether an expression is a literal. A comparison of a literal with a field of the viewer isn't listed."""
     node = meaning(node)
     return node.kind == 'text' or node.head() == 'none' or node.kind == 'atom' and bool(
         re.fullmatch('true|false|-?[0-9]+', node.value))
@@ -723,7 +728,7 @@ def compared(node, holds, certain, facts):
 # What is stored.
 
 def copies(application):
-    """Guarded fields that are stored elsewhere by a view that deletes such a record."""
+    """Guarded fields, and fields of hidden records, that are stored elsewhere by a view that deletes such a record."""
     for view in application.posts():
         deleted = {step.node.children[1].value for step in view.stores() if step.node.head() == 'delete'}
         for step in view.stores():
@@ -741,7 +746,7 @@ def copied(application, view, node):
 
 
 def sums(application):
-    """Guarded numbers that are added up, unless the query asks a truth value of the same group."""
+    """Guarded numbers that a sum adds up, unless its query asks for a truth value that the same group guards."""
     places = [(policy.place(), [policy.condition]) for policy in application.policies]
     places += [(view.place, [part for step in view.steps for part in expressions_of(step.node)])
                for view in application.views]
@@ -754,7 +759,8 @@ def sums(application):
 
 
 def sums_by_hand(application):
-    """Guarded numbers that a loop adds to a name, unless a condition around asks a truth value of the same group."""
+    """Guarded numbers that a loop adds to a name, unless a condition around it asks for a truth value that the same
+    group guards."""
     for view in application.views:
         for node, conditions in view.steps:
             value = node.children[2] if node.head() == 'assign' else None
@@ -769,7 +775,7 @@ def sums_by_hand(application):
 
 
 def expressions_of(statement):
-    """The expressions that stand right in a statement."""
+    """The expressions directly in a statement."""
     word, parts = statement.head(), statement.children[1:]
     if word in ('create', 'update'):
         return [cell.children[1] for cell in parts[2].children[1:]] + (parts[1:2] if word == 'update' else [])
@@ -778,17 +784,17 @@ def expressions_of(statement):
 
 
 def is_known(application, model, field, condition):
-    """Whether a query asks a truth value that is guarded in the group of the field, and publicly false."""
+    """Whether a condition asks for a truth value that the field's group also guards, with the public value false."""
     beside = {name for policy in application.policies if policy.model == model and field in policy.guards
               for name, public in policy.guards.items() if public.is_atom('false')}
     return any(node.children[1].value == model and node.children[2].value in beside
                for node in application.guarded_reads(inside(condition)))
 
 
-# What is put.
+# Output.
 
 def pages(application):
-    """Texts that are put raw, and texts that are escaped where that doesn't protect them."""
+    """Texts that are put unescaped, and texts that are escaped where that doesn't protect the page."""
     for view in application.views:
         putting = Putting(view)
         putting.statements(view.body, [Markup()])
@@ -796,8 +802,8 @@ def pages(application):
 
 
 class Putting:
-    """Goes over the statements of a view as a page is put, and notes where a text is put that somebody else chose. What
-    was put before a statement may differ, by the branches taken: each is a `Markup` of its own."""
+    """Follows the statements of a view as they put a page, and notes where they put a text that somebody else chose.
+    What was put before a statement depends on the branches taken. Each possibility is a `Markup`."""
 
     def __init__(self, view):
         self.view, self.found = view, []
@@ -826,7 +832,7 @@ class Putting:
         return before
 
     def value(self, word, node, before):
-        """What a page is after a value that `word` puts, or that is a part of such a one, where there is no word."""
+        """The states of the page after a value. `word` is the statement that puts it, or '' for a part of a value."""
         if word:
             self.look(word, node, before)
         node = meaning(node)
@@ -843,7 +849,8 @@ class Putting:
         return [markup.after(None) for markup in before]
 
     def look(self, word, node, before):
-        """Notes the texts of a value that somebody else chose, where they are put as they are or aren't protected."""
+        """Notes the texts in a value that somebody else chose, if they are put unescaped, or if escaping doesn't
+        protect the page here."""
         danger = next(filter(None, (markup.danger() for markup in before)), None)
         for one in texts_in(self.view, node):
             subject = subject_of(one)
@@ -854,7 +861,7 @@ class Putting:
 
 
 def told_apart(pages):
-    """What was put before a place, each once; of many the first ones."""
+    """These states of a page, each once, and at most MOST of them."""
     return list({page.state(): page for page in pages}.values())[:MOST]
 
 
@@ -865,7 +872,7 @@ def subject_of(node):
 
 
 def texts_in(view, node, seen=frozenset()):
-    """The parts of a text that somebody else may have chosen: parameters and fields, and what names are bound to."""
+    """The parts of a text that somebody else may have chosen: parameters, fields, and names bound to such parts."""
     if node.kind == 'text' or node.value_kind != 'text':
         return []
     word, parts = node.head(), node.children[1:]
@@ -881,10 +888,10 @@ def texts_in(view, node, seen=frozenset()):
     return [node]
 
 
-# Where a view leads.
+# Redirects and links.
 
 def redirects(application):
-    """Redirects to wherever a text says that somebody else may have chosen."""
+    """Redirects to a location that somebody else may have chosen."""
     for view in application.views:
         for step in view.steps:
             if step.node.head() == 'redirect':
@@ -894,7 +901,7 @@ def redirects(application):
 
 
 def leads_away(view, node, before, seen=frozenset()):
-    """The parts of a location that may choose its site; `before` has the texts that may be before it."""
+    """The parts of a location that may choose its site. `before` has the texts that may be before it."""
     if all(OWN_SITE.match(text) for text in before):
         return []
     node = meaning(node)
@@ -914,8 +921,8 @@ def leads_away(view, node, before, seen=frozenset()):
 
 
 def beginnings(node):
-    """The texts that a part of a location may be, as far as they are known: a reference may be none, and then is
-    nothing, and so may a text be that somebody else chose."""
+    """The texts that a part of a location may be, as far as they are known. A reference that is none is the empty text.
+    A text that somebody else chose may also be empty."""
     node = meaning(node)
     word, parts = node.head(), node.children[1:]
     if node.kind == 'text':
@@ -929,7 +936,7 @@ def beginnings(node):
 
 
 def unlinked(application):
-    """Views that no page leads to, where the links of all pages are known."""
+    """Views that no page leads to, if the links of all pages are known."""
     linked = {shape(path) for view in application.views
               for path in re.findall(r'(?:href|action|src)\s*=\s*[\'"]?([^\'"\s>]*)', put_in(view))}
     led = linked | {shape(path) for view in application.views for step in view.steps
@@ -949,12 +956,12 @@ def shape(path):
 
 
 def put_in(view):
-    """What a view puts, with a mark where a value is."""
+    """The text that a view puts, with a mark in place of each value."""
     return ''.join(literals(step.node.children[1])[0] for step in view.steps if step.node.head() in ('put', 'esc'))
 
 
 def literals(node):
-    """The texts that an expression may be, with a mark where a value is."""
+    """The texts that an expression may be, with a mark in place of each value."""
     if node.kind == 'text':
         return [node.value.decode('utf-8', 'replace')]
     if node.head() == 'cat':

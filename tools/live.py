@@ -1,15 +1,15 @@
 #!/usr/bin/env python3
-"""Looks at a store, which may be served meanwhile: each command copies it first (deploy/backup.py), and asks the program
-about the copy.
+"""Reads a store, even while it is served. Each command first makes a copy (deploy/backup.py), and runs the program on
+the copy.
 
     python3 tools/live.py dump APP LABELS --db STORE          the records as these labels show them
     python3 tools/live.py why APP VIEWER --db STORE           what the viewer is shown, and why not the rest, in words
     python3 tools/live.py as APP VIEWER --db STORE            the records as the viewer sees them, in words
-    python3 tools/live.py export APP VIEWER FILE --db STORE   the same in a new file of SQLite
+    python3 tools/live.py export APP VIEWER FILE --db STORE   the same records in a new SQLite file
 
-VIEWER is the number of a record, or - for nobody. For `as` and `export` the program is given the models of the
-application with a view of each that lists its records, and answers them as the viewer: no policy is decided here. The
-file of `export` has a table for each model, with a column for the number of the record and one for each field."""
+VIEWER is the id of a record, or - for nobody. For `as` and `export` the program gets the models of the application,
+with a view for each model that lists its records. The program answers these views for the viewer, so this script
+decides no policy. The file of `export` has a table for each model, with columns for the record's id and its fields."""
 import argparse
 import contextlib
 import html
@@ -34,18 +34,18 @@ import store_copies                                                         # no
 import walk                                                                 # noqa: E402
 import why                                                                  # noqa: E402
 
-# what stands before a record and before each of its fields on a page: no escaped value has a <
+# the marks before a record and before each of its fields on a page; no escaped value contains a <
 RECORD, FIELD = '<r>', '<f>'
 TYPES = {'int': ' INTEGER', 'text': ' TEXT', 'bool': ' INTEGER'}
 LARGEST = 2 ** 63 - 1
 
 
 class Fault(Exception):
-    """Why there is nothing to show."""
+    """The reason why nothing can be shown."""
 
 
 class Copy:
-    """A copy of a store, with the application's text in a file beside it, and the program that is asked of them."""
+    """A copy of a store, a file with the application's text beside it, and the program that reads them."""
 
     def __init__(self, options, room):
         self.app, self.db, self.program, self.room = options.app, options.db, options.program, room
@@ -60,14 +60,14 @@ class Copy:
         return path
 
     def asked(self, command, word):
-        """The lines of a command of the program. What it says of the copies is said of what they are copies of."""
+        """The lines that a command of the program prints. Messages name the original files, not the copies."""
         try:
             return hidden.asked(self.program, command, self.text, word, self.store)
         except hidden.Fault as fault:
             raise Fault(str(fault).replace(self.text, self.app).replace(self.store, self.db)) from None
 
     def pages(self, text, viewer, count):
-        """The pages of the first views of an application, asked as a viewer, and the labels under which they are."""
+        """The pages of the first `count` views of an application for a viewer, and the labels that they show."""
         events = ''.join('ask %s GET "/%d" ""\n' % (viewer, place) for place in range(count))
         log = os.path.join(self.room, 'audit')
         status, out, told = hidden.output_of([
@@ -89,7 +89,7 @@ def list_view(place, model):
 
 
 def lists_of(data, models):
-    """An application that has the models of another one, with their policies, and lists of their records."""
+    """An application that has the models of another one, with their policies, and views that list their records."""
     checker = fault_place.Checker(fault_place.read_tree(data, list(range(len(data) + 1))))
     head = '(app\n' + (' (viewer %s)\n' % checker.viewer.value if checker.viewer is not None else '')
     kept = b'\n'.join(data[model.start:model.end] for model in checker.models)
@@ -106,23 +106,23 @@ def value_of(kind, text):
 
 
 def records_of(model, page):
-    """The records of a page that lists them: the number of each, and its values."""
+    """The records on a page that lists them: the id of each, and its values."""
     for record in page.split(RECORD)[1:]:
         number, *values = record.split(FIELD)
         yield int(number), [value_of(kind, text) for (_, kind), text in zip(model.fields, values)]
 
 
 class World:
-    """The records of a store as a viewer sees them: for each model its records."""
+    """The records of a store as a viewer sees them, by model."""
 
     def __init__(self, copy, viewer):
-        copy.asked('dump', '-')     # says what is wrong with the application or the store
+        copy.asked('dump', '-')     # fails if the application or the store is wrong
         self.models, self.names = schema.of_application(copy.data), audit.Names(copy.data)
         pages, self.labels = copy.pages(lists_of(copy.data, self.models), viewer, len(self.models))
         self.records = [list(records_of(model, page)) for model, page in zip(self.models, pages)]
 
     def is_public(self, model, number, field):
-        """Whether a field is guarded, and the viewer isn't shown what it guards."""
+        """Whether the viewer sees only the public value of a field, because the field is guarded and hidden."""
         return any(group != 'hides' and field in group and number * 8 + place not in self.labels
                    for place, group in enumerate(model.groups))
 
@@ -147,13 +147,13 @@ class World:
 
 
 def escaped(character):
-    """As a dump has it."""
+    """A character, escaped as in a dump."""
     short = {'\n': '\\n', '\r': '\\r', '\\': '\\\\', '"': '\\"'}.get(character)
     return short or ''.join('\\x%02x' % byte for byte in character.encode())
 
 
 def free(name, taken):
-    """The name, or where it is taken, as SQLite compares names, the first free one with a number behind it."""
+    """The name, or if it is taken, the first free one with a number after it. As in SQLite, case doesn't matter."""
     tried, number = name, 2
     while tried.lower() in taken:
         tried, number = '%s_%d' % (name, number), number + 1
@@ -162,7 +162,7 @@ def free(name, taken):
 
 
 def cell(value):
-    """A value as SQLite keeps it: a number beyond its integers, as that of a record of a loop may be, is a text."""
+    """A value for SQLite. A number beyond SQLite's integers, as the id of a record of a loop may be, is a text."""
     is_wide = isinstance(value, int) and not -LARGEST - 1 <= value <= LARGEST
     return str(value) if is_wide else value
 
@@ -209,7 +209,7 @@ def run_export(options, room):
 
 
 def operand(name):
-    """What reads an operand as the program does."""
+    """A function that checks an operand as the program does."""
     def read(word):
         wrong = commands.operand_words(name, word)
         if wrong:
@@ -229,9 +229,9 @@ def options_of(words):
         command.add_argument('app', metavar='APP', help='the application, a file or a folder')
         for word in operands:
             command.add_argument(word, metavar=word.upper(), type=operand(word.upper()))
-        command.add_argument('--db', metavar='STORE', required=True, help='the store, of which a copy is read')
+        command.add_argument('--db', metavar='STORE', required=True, help='the store; a copy of it is read')
         command.add_argument('--program', metavar='FILE', default=os.path.join(TOP, 'jac'),
-                             help='the program, instead of ./jac')
+                             help='the program to run, instead of ./jac')
     return parser.parse_args(words)
 
 

@@ -1,4 +1,4 @@
-"""Where in a page of HTML a value is put: enough of HTML's grammar to say where escaping doesn't protect it."""
+"""Finds where in an HTML page a value is put. It knows enough HTML to say where escaping doesn't protect the page."""
 import re
 
 ADDRESSES = {'href', 'src', 'action', 'formaction', 'data', 'poster', 'cite', 'background', 'manifest', 'ping',
@@ -6,27 +6,27 @@ ADDRESSES = {'href', 'src', 'action', 'formaction', 'data', 'poster', 'cite', 'b
 RAW = {'script', 'style'}
 NAME = re.compile(r'[A-Za-z][A-Za-z0-9:-]*')
 SPACE = ' \t\r\n\f'
-# How an address begins whose site and scheme are known, and one that is a script.
+# The beginning of an address with a known site and scheme, and of one that is a script.
 KNOWN = re.compile(r'(?:/[^/\\]|[?#]|\.{1,2}/|(?:https?:)?//[^/?#]+[/?#]|(?:mailto|tel|sms):|[^:/?#\\]+[/?#])', re.I)
 SCRIPT = re.compile(r'(?:javascript|vbscript):|data:text/html', re.I)
 REFRESH = re.compile(r'.*\burl\s*=\s*[\'"]?', re.I | re.S)
-# What is in the place of a value of which nothing is known.
+# Stands for a value about which nothing is known.
 VALUE = '0'
 
 
 class Markup:
     """The state after some text of a page: between tags, in a tag, in an attribute's value, or in a script. `said` is
-    what the attribute's value has so far."""
+    the attribute's value so far."""
 
     def __init__(self, mode='text', tag='', attribute='', said=''):
         self.mode, self.tag, self.attribute, self.said = mode, tag, attribute, said
 
     def state(self):
-        """Two are alike where this is the same."""
+        """A tuple that is the same for equal states."""
         return self.mode, self.tag, self.attribute, self.said
 
     def after(self, text):
-        """The state after literal text of the page, or after a value, where `text` is None."""
+        """The state after literal text of the page, or after a value if `text` is None."""
         next_one = Markup(*self.state())
         if text is None:
             next_one.put_value()
@@ -35,20 +35,20 @@ class Markup:
         return next_one
 
     def feed(self, text):
-        """Goes on over literal text of the page."""
+        """Changes the state by literal text of the page."""
         at = 0
         while at < len(text):
             at = getattr(self, 'in_' + self.mode)(text, at)
 
     def put_value(self):
-        """Goes on over a value, of which nothing is known."""
+        """Changes the state by a value about which nothing is known."""
         if self.mode == 'before':
             self.mode = 'unquoted'
         if self.mode in ('unquoted', 'single', 'double'):
             self.said = (self.said + VALUE)[:80]
 
     def danger(self):
-        """Why escaping doesn't protect a text that is put here, or None where it does."""
+        """Why escaping doesn't protect a text that is put here, or None if it does."""
         if self.mode in ('before', 'unquoted'):
             return 'the value of the attribute %s has no quotes, so a space in the text ends it and begins another ' \
                 'attribute' % self.attribute
@@ -59,7 +59,7 @@ class Markup:
         return self.danger_of_value() if self.mode in ('single', 'double') else None
 
     def danger_of_value(self):
-        """The same in an attribute's value that has quotes."""
+        """The same for an attribute's value in quotes."""
         if self.attribute.startswith('on') or self.attribute == 'style':
             return 'the value of %s is read as %s after its escapes were read' % (
                 self.attribute, 'a style' if self.attribute == 'style' else 'a script')
@@ -76,7 +76,7 @@ class Markup:
                     'that of another site, or a script by javascript:' % self.attribute
         return None
 
-    # Each mode reads from a place in the text, and answers the place after what it read.
+    # Each mode reads from an offset in the text, and returns the offset after what it read.
 
     def in_text(self, text, at):
         begin = text.find('<', at)

@@ -1,4 +1,4 @@
-"""Words of other languages, and what they are called here, for the messages of `fault_place.py`."""
+"""Words of other languages, and the words of this language for them, for the messages of `fault_place.py`."""
 
 EXPRESSIONS = {
     'add': ('plus', 'sum2', 'increment', 'inc'),
@@ -45,6 +45,6 @@ KINDS = {
 
 
 def meant(word, meanings):
-    """What a word of another language is called here, or None."""
+    """The word of this language for a word of another language, or None."""
     plain = word.lower().rstrip('?')
     return next((here for here, others in meanings.items() if plain in others), None)

@@ -1,17 +1,18 @@
 #!/usr/bin/env python3
-"""Tries the wrong bodies of checks/mutations, which are no part of the gate: the prover has to refuse each of them.
+"""Tries the wrong bodies in checks/mutations, which aren't part of the gate. The prover has to refuse each of them.
 
-    python3 tools/mutations.py [NAME ..]         tries those of these crates, or of all that have some
-    python3 tools/mutations.py --list [NAME ..]  says how many each crate has, and which can't be applied; nothing is proved
+    python3 tools/mutations.py [NAME ..]         tries those of these crates (default: all crates)
+    python3 tools/mutations.py --list [NAME ..]  counts them, and lists those that can't be applied; nothing is proved
 
-It works on a copy of `crates/`, `crates.txt` and `HANDLES` as they stand, one crate after the other, lowest first. In the
-copy a crate has the wrong bodies of checks/mutations/NAME in place of its own, and the kit's `rt must-fail NAME` tries
-them. That proves whatever library below is lacking, so the first crate of a run may take long; the copy is kept to its
-end. With `--room FOLDER` the copy stands there and stays, so that a later run begins with what this one proved.
+The script works on a copy of `crates/`, `crates.txt` and `HANDLES`, one crate after the other, lowest first. In the
+copy, the wrong bodies of checks/mutations/NAME replace the crate's own, and the kit's `rt must-fail NAME` tries them.
+This also proves the lower libraries that are missing, so the first crate of a run may take long. The copy is removed
+when the run ends. With `--room FOLDER` the copy is in FOLDER and stays, so that a later run needn't prove the same
+libraries again.
 
-A crate's line says how many were refused, and how long that took. Each that wasn't refused is told, and so is each that
-was refused only because a proof names what it took away, which says little of the contract. The status is 0 where all
-were refused."""
+A line for each crate says how many wrong bodies were refused, and how long that took. The others are listed. Also
+listed are those that were refused only because a proof names what they removed, because that says little about the
+contract. The exit status is 0 if all were refused."""
 import argparse
 import collections
 import os
@@ -33,19 +34,19 @@ NAME_ALONE = 'only because a proof file names what the edit took away'
 
 
 def edits_of(name):
-    """The wrong bodies of the crate in checks/mutations, as paths."""
+    """The paths of the crate's wrong bodies in checks/mutations."""
     folder = os.path.join(FOLDER, name)
     names = sorted(os.listdir(folder)) if os.path.isdir(folder) else []
     return [os.path.join(folder, file) for file in names if file.endswith('.edit')]
 
 
 def outcome_of(said, rest):
-    """What the try of a wrong body came to, by what `rt` says of it."""
+    """The outcome of a wrong body, by what `rt` says about it."""
     return BY_NAME if said == REFUSED and NAME_ALONE in rest else said
 
 
 def outcomes_in(output, name):
-    """What the tries of the crate's wrong bodies came to, by name, with the words after it."""
+    """The outcome of each of the crate's wrong bodies, by name, with the words that `rt` prints after it."""
     found = {}
     for line in output.split('\n'):
         match = SAID.match(line)
@@ -55,7 +56,7 @@ def outcomes_in(output, name):
 
 
 class Room:
-    """A copy of the crates, in which the wrong bodies stand."""
+    """A copy of the crates, for trying wrong bodies."""
 
     def __init__(self, folder):
         self.folder = os.path.abspath(folder)
@@ -69,7 +70,7 @@ class Room:
         return os.path.join(self.folder, 'crates', name)
 
     def bring(self, name):
-        """Brings the crate's files to what they are; what was proved before stays."""
+        """Copies the crate's files anew. What was proved before stays."""
         for part in os.listdir(self.crate(name)) if os.path.isdir(self.crate(name)) else []:
             path = os.path.join(self.crate(name), part)
             if part != 'out':
@@ -84,14 +85,14 @@ class Room:
             shutil.copy2(edit, folder)
 
     def tries(self, rt, name):
-        """What `rt must-fail` says of the crate's wrong bodies."""
+        """What `rt must-fail` prints for the crate."""
         ran = subprocess.run([rt, 'must-fail', name], cwd=self.folder, stdin=subprocess.DEVNULL, text=True, errors='replace',
                              stdout=subprocess.PIPE, stderr=subprocess.STDOUT)
         return ran.stdout
 
 
 def try_crate(room, rt, name):
-    """Tries the crate's wrong bodies, tells what came of them, and returns how often each outcome came."""
+    """Tries the crate's wrong bodies, prints the outcomes, and returns how often each outcome occurred."""
     edits, began = edits_of(name), time.monotonic()
     room.put(name, edits)
     output = room.tries(rt, name)
@@ -121,7 +122,7 @@ def try_all(names, folder):
 
 
 def list_all(names):
-    """Says how many wrong bodies each crate has, and which can't be applied."""
+    """Prints how many wrong bodies each crate has, and which can't be applied."""
     read_edit, total, wrong = kit.load().read_edit, 0, 0
     for name in names:
         edits = edits_of(name)
@@ -138,9 +139,9 @@ def list_all(names):
 
 def main():
     reader = argparse.ArgumentParser(description=__doc__, formatter_class=argparse.RawDescriptionHelpFormatter)
-    reader.add_argument('names', metavar='NAME', nargs='*', help='a crate; none: all that have wrong bodies there')
-    reader.add_argument('--list', action='store_true', help='only say what there is, and what can\'t be applied')
-    reader.add_argument('--room', metavar='FOLDER', help='where the copy stands, which then stays')
+    reader.add_argument('names', metavar='NAME', nargs='*', help='a crate (default: all that have wrong bodies there)')
+    reader.add_argument('--list', action='store_true', help='only count them, and list those that can\'t be applied')
+    reader.add_argument('--room', metavar='FOLDER', help='the folder for the copy, which then stays')
     words = reader.parse_args()
     have = [name for name in crates() if edits_of(name)]
     lacking = [name for name in words.names if name not in have]

@@ -1,7 +1,7 @@
 #!/usr/bin/env python3
-"""Makes a new application in a folder: pages with a layout, a policy, two people to be, and a walk that passes.
+"""Makes a new application in a folder: pages with a layout, a policy, two people to log in as, and a walk that passes.
 
-FOLDER is made, or is empty. README.md in it says what to type next. Nothing is run."""
+FOLDER is made if it doesn't exist. Otherwise it must be empty. Its README.md says what to type next. Nothing is run."""
 import argparse
 import os
 import re
@@ -12,20 +12,20 @@ TEMPLATE = os.path.join(TOP, 'tools', 'new')
 
 
 def parts():
-    """The files of the template, by their paths in it."""
+    """The paths of the template's files in the template."""
     for folder, _, names in os.walk(TEMPLATE):
         for name in names:
             yield os.path.relpath(os.path.join(folder, name), TEMPLATE)
 
 
 def path_from(folder, path):
-    """A path as it is typed in the folder: a relative one where the folder is in this clone."""
+    """A path as it is typed in the folder. It is relative if the folder is in this clone."""
     inside = os.path.commonpath([os.path.realpath(folder), os.path.realpath(TOP)]) == os.path.realpath(TOP)
     return os.path.relpath(path, folder) if inside else path
 
 
 def values(folder):
-    """What the template's marks stand for. The site is called as the folder is."""
+    """The values of the template's marks. The site is named after the folder."""
     name = re.sub('[^A-Za-z0-9]+', '-', os.path.basename(os.path.abspath(folder))).strip('-') or 'notes'
     site = name.replace('-', ' ')
     return {'name': name, 'site': site[0].upper() + site[1:], 'jac': path_from(folder, os.path.join(TOP, 'jac')),
@@ -33,7 +33,7 @@ def values(folder):
 
 
 def make(folder):
-    """Writes the files, none of which is there yet."""
+    """Writes the files. None of them may exist yet."""
     os.makedirs(os.path.join(folder, 'pages'), exist_ok=True)
     marks = values(folder)
     for path in sorted(parts()):
@@ -46,7 +46,7 @@ def make(folder):
 def main():
     words = argparse.ArgumentParser(prog='new', description=__doc__,
                                     formatter_class=argparse.RawDescriptionHelpFormatter)
-    words.add_argument('folder', metavar='FOLDER', help='the folder that is made')
+    words.add_argument('folder', metavar='FOLDER', help='the folder to make')
     folder = words.parse_args().folder
     try:
         if os.path.exists(folder) and (not os.path.isdir(folder) or os.listdir(folder)):

@@ -1,8 +1,9 @@
 #!/usr/bin/env python3
-"""Checks a crate over the sources of the crates below it that aren't proved, so that a crate can be worked on while those
-are still being proved. Words: the crate, and the words of `rattle check`, as `--only FILE::FUNCTION` or `--only=`, which
-tells errors of the code alone. Libraries that stand in this clone are taken as they are. It keeps its work in the crate's
-`out/incremental`. Nothing is proved by it: the contracts below are taken as they stand."""
+"""Checks a crate, and uses the sources of those lower crates that aren't proved yet. So you can work on a crate while
+its lower crates are still being proved. Arguments: the crate, and arguments of `rattle check`, such as `--only
+FILE::FUNCTION`, or `--only=`, which only reports errors of the code. Libraries in this clone are used as they are. The
+work is kept in the crate's `out/incremental`. This proves nothing, because the contracts of the lower crates are
+assumed."""
 import argparse
 import os
 import sys
@@ -14,7 +15,7 @@ KIT = '/opt/rattle'
 
 
 def uses(name):
-    """What the crate's line of crates.txt names, with the crates of the kit."""
+    """The crates that the crate's line in crates.txt names, those of the kit included."""
     with open(os.path.join(TOP, 'crates.txt'), encoding='utf-8') as lines:
         for line in lines:
             head, _, names = line.partition('#')[0].partition(':')
@@ -28,7 +29,7 @@ def library(name):
 
 
 def words_below(crate):
-    """The words that name the kit's crates, the libraries that stand, and the sources of the others."""
+    """The arguments that name the kit's crates, the libraries in this clone, and the other lower crates' sources."""
     own = [name for name in below(crate) if name != crate]
     kit = sorted({name for one in [*own, crate] for name in uses(one)} - set(own) - {crate})
     for name in ['core', 'std', *kit]:
@@ -44,7 +45,7 @@ def words_below(crate):
 
 
 def root():
-    """The root file of the crate in this folder: of a program, or of a library."""
+    """The root file of the crate in the current folder, which is a program or a library."""
     main_file = os.path.join('src', 'main.rt')
     return main_file if os.path.exists(main_file) else os.path.join('src', 'lib.rt')
 

@@ -1,8 +1,10 @@
 #!/usr/bin/env python3
-"""What a program was built of. Beside a program stands a file, its name with `.sources` behind it: the sum of the names,
-sizes and times of its sources, which `jac` compares at each start, the sum of what they hold, and their paths. The word
-is the program, and the status 0 where its sources hold what they held. A proved program with no such file, as `rt ci`
-leaves it, is taken for one of these sources where it is younger than all of them, and then gets its file."""
+"""Says whether a program was built from the current sources. The argument is the program. If it was, the exit status
+is 0.
+
+The sources are recorded in a file beside the program, PROGRAM.sources. It has a checksum of their names, sizes and
+times, which `jac` compares at each start, a checksum of their content, and their paths. `rt ci` writes no such file. If
+a proved program has none, and is younger than all its sources, it counts as built from them, and gets the file."""
 import hashlib
 import os
 import subprocess
@@ -17,12 +19,12 @@ TRIAL = os.path.join(TOP, 'out', 'trial', PROGRAM)
 
 
 def parts_of(program):
-    """The parts of a crate that count: of a trial the code alone, since nothing else is read for it."""
+    """The parts of a crate that count. For a trial that is only the code, because nothing else is read."""
     return ('src',) if program == TRIAL else PARTS
 
 
 def paths_of(program):
-    """What `find` is given, to come to each file that the program is built of."""
+    """The paths from which `find` reaches each file that the program is built from."""
     found = ['crates.txt']
     for name in below(PROGRAM):
         found += [path for path in ('crates/%s/%s' % (name, part) for part in parts_of(program))
@@ -31,19 +33,19 @@ def paths_of(program):
 
 
 def look_of(paths):
-    """The sum of the names, sizes and times, as `jac` makes it."""
+    """The checksum of the names, sizes and times, as `jac` makes it."""
     words = "find \"$@\" -printf '%p %s %T@\\n' | cksum"
     return subprocess.run(['bash', '-c', words, 'bash', *paths], cwd=TOP, stdout=subprocess.PIPE, check=True,
                           text=True).stdout.strip()
 
 
 def sources_of(program):
-    """Each file that the program is built of."""
+    """Each file that the program is built from."""
     return ['crates.txt', *(path for name in below(PROGRAM) for path in files(name, parts_of(program)))]
 
 
 class State:
-    """The sources as they are now. The look comes first: what changes behind it is seen at the next start."""
+    """The sources as they are now. `look` is made first, so that the next start notices any later change."""
 
     def __init__(self, program):
         self.paths = paths_of(program)
@@ -55,8 +57,8 @@ class State:
         self.content = content.hexdigest()
 
     def note(self, program):
-        """Writes down that the program was built of them."""
-        # several checks may write it down at once
+        """Records that the program was built from these sources."""
+        # several checks may write the file at the same time
         new = '%s.%d.new' % (program, os.getpid())
         with open(new, 'w', encoding='utf-8') as file:
             file.write('\n'.join([self.look, self.content, *self.paths]) + '\n')
@@ -64,7 +66,7 @@ class State:
 
 
 def noted(program):
-    """The sum of what its sources held, or None where nothing was written down."""
+    """The recorded checksum of the sources' content, or None if nothing was recorded."""
     try:
         with open(program + '.sources', encoding='utf-8') as file:
             return file.read().split('\n')[1]
@@ -78,7 +80,7 @@ def is_youngest(program):
 
 
 def is_current(program):
-    """Whether the program is there, and its sources hold what they held when it was built."""
+    """Whether the program exists, and its sources have the same content as when it was built."""
     if not os.access(program, os.X_OK):
         return False
     now, was = State(program), noted(program)

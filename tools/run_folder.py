@@ -1,10 +1,10 @@
 #!/usr/bin/env python3
-"""Runs the program on words of which an application is a folder.
+"""Runs a command of the program in which an application is a folder.
 
-Words: the program, and the words of its command. The text of each folder is put together (tools/assemble.py), and the
-program is given a file that has no name and ends with the process, as `/proc/self/fd/N`. The program takes the place
-of this process, so that signals reach it and its exit status is its own. Where a folder can't be put together the
-program isn't run; `tools/assemble.py --help` says what the exit status is then."""
+Arguments: the program, and the arguments of its command. The parts of each folder are joined (tools/assemble.py). The
+program gets the joined text as `/proc/self/fd/N`, a file that has no name and is gone after the process ends. The
+program replaces this process, so that it gets the signals, and its exit status is that of the process. If a folder
+can't be joined, the program isn't run. `tools/assemble.py --help` says what the exit status is then."""
 import os
 import signal
 import sys
@@ -16,7 +16,7 @@ import fault_place                                                          # no
 
 
 def with_files(words):
-    """The words with a file in the place of each folder."""
+    """The arguments, with a file in place of each folder."""
     words = list(words)
     for at in fault_place.places_of_applications(words):
         if assemble.main_part(words[at]):
@@ -29,7 +29,7 @@ def main(words):
         print(__doc__)
         return
     command = [words[0], *with_files(words[1:])]
-    # a program that takes this one's place would go on to ignore what Python ignores
+    # Python ignores these signals, and the program would inherit that
     signal.signal(signal.SIGPIPE, signal.SIG_DFL)
     signal.signal(signal.SIGXFSZ, signal.SIG_DFL)
     os.execv(command[0], command)

@@ -1,6 +1,6 @@
-"""The lines of a sessions file and of an events file, for messages alone: which word of a line has no form, and what
-the grammar wants. The program decides; docs/USING.md, "Events" and "Sessions", has the rules, and `checks/fault_places.py`
-compares these with the program's."""
+"""Says which word of a line in a sessions file or an events file is malformed, and what the grammar expects. This is
+only for messages, because the program decides which lines it accepts. docs/USING.md, "Events" and "Sessions", has the
+rules. `checks/fault_places.py` compares the rules here with those of the program."""
 import difflib
 import re
 
@@ -15,7 +15,7 @@ MOST_TOKEN, MOST_METHOD = 128, 15
 
 
 class Wrong(Exception):
-    """What is wrong with a line: the bytes of the line that it is about, and the words."""
+    """What is wrong with a line: a span of bytes in the line, and a message."""
 
     def __init__(self, start, end, words):
         super().__init__(words)
@@ -23,7 +23,7 @@ class Wrong(Exception):
 
 
 class LineFault:
-    """A line that the program refuses: what it puts, the bytes of the file that it is about, and the words."""
+    """A line that the program refuses: what the program prints, a span of bytes in the file, and a message."""
 
     def __init__(self, line, start, end, words):
         self.line, self.start, self.end, self.words = line, start, end, words
@@ -34,7 +34,7 @@ def text_of(data):
 
 
 def lines_of(data):
-    """The lines that aren't empty: the number of each, where it begins, and its bytes."""
+    """The lines that aren't empty: the number, the offset and the bytes of each."""
     at = 0
     for number, line in enumerate(data.split(b'\n'), 1):
         if line:
@@ -43,7 +43,7 @@ def lines_of(data):
 
 
 class Line:
-    """A line that is read from its front, word for word."""
+    """A line that is read word by word, from its beginning."""
 
     def __init__(self, data, form):
         self.data, self.form, self.at = data, form, 0
@@ -58,7 +58,7 @@ class Line:
             raise Wrong(0, len(data) - len(data.lstrip(b' \t')), 'the line begins with white space')
 
     def word(self, what):
-        """The bytes up to the next space, or to the end: where they begin and end."""
+        """Reads the bytes up to the next space, or to the end of the line. Returns where they begin and end."""
         if self.at >= len(self.data):
             raise Wrong(max(0, len(self.data) - 1), len(self.data), '%s is missing: %s' % (what, self.form))
         start = self.at
@@ -76,7 +76,7 @@ class Line:
         return len(self.data) - len(self.data[at:].lstrip(b' '))
 
     def space(self, what):
-        """Passes over the one space before a part."""
+        """Skips the one space before a part."""
         if self.at >= len(self.data):
             raise Wrong(max(0, len(self.data) - 1), len(self.data), '%s is missing: %s' % (what, self.form))
         if self.data[self.at:self.at + 1] != b' ':
@@ -84,7 +84,7 @@ class Line:
         self.at += 1
 
     def end(self, last):
-        """The line ends behind its last part."""
+        """Checks that the line ends after its last part."""
         if self.at < len(self.data):
             rest = self.data[self.at:]
             if not rest.strip():
@@ -92,7 +92,7 @@ class Line:
             raise Wrong(self.at, len(self.data), 'the line ends after %s: %s' % (last, self.form))
 
     def number(self, what, most, limit, said):
-        """A word of digits below a limit: `said` is what to say of any other word."""
+        """Reads a number below a limit. `said` is the message about a word that isn't a number."""
         start, end = self.word(what)
         word = self.data[start:end]
         if not re.fullmatch(rb'[0-9]+', word):
@@ -109,7 +109,7 @@ class Line:
             self.number('the viewer', 39, MANY, 'the viewer is the number of a record, or - for nobody, and not %s')
 
     def quoted(self, what):
-        """The bytes of a text in quotes, and where it begins."""
+        """Reads a text in quotes. Returns its bytes, and where it begins."""
         start = self.at
         if self.data[start:start + 1] == b' ':
             raise Wrong(start - 1, self.after_spaces(start), 'one space stands before %s, and here are more' % what)
@@ -131,14 +131,14 @@ class Line:
 
 
 def unescaped(escape):
-    """The byte that an escape is for."""
+    """The byte that an escape stands for."""
     if escape[1:2] == b'x':
         return bytes([int(escape[2:], 16)])
     return {b'n': b'\n', b'r': b'\r'}.get(escape[1:2], escape[1:2])
 
 
 def read_session(data):
-    """Raises what is wrong with a line of a sessions file."""
+    """Checks a line of a sessions file. Raises `Wrong` if it is malformed."""
     line = Line(data, SESSION)
     start, end = line.word('the token')
     word = data[start:end]
@@ -157,7 +157,7 @@ def read_session(data):
 
 
 def read_event(data):
-    """The verb of a line of events, and the number of its connection, if it has one. Raises what is wrong with it."""
+    """The verb of a line of events, and the number of its connection or None. Raises `Wrong` if it is malformed."""
     line = Line(data, 'the line is ' + ASK)
     start, end = line.word('a word')
     verb = text_of(data[start:end])
@@ -204,7 +204,7 @@ def read_ask(line):
 
 
 def faults_of_sessions(data):
-    """The lines of a sessions file that have no form."""
+    """The malformed lines of a sessions file."""
     for number, at, line in lines_of(data):
         try:
             read_session(line)
@@ -213,7 +213,7 @@ def faults_of_sessions(data):
 
 
 def faults_of_events(data):
-    """The lines of events that have no form, or are of a connection that hasn't begun, or has."""
+    """The malformed lines of events, and the lines for a connection that isn't open, or that is open already."""
     connections = {}
     for number, at, line in lines_of(data):
         try:
@@ -232,7 +232,8 @@ def faults_of_events(data):
 
 
 def state_words(connection, is_open, since):
-    """What is wrong with a line of a connection that is open already, or isn't: since which line, if any."""
+    """The message about a line for a connection that is open already, or that isn't open. `since` is the number of the
+    connection's last line, if it has one."""
     if is_open:
         return 'connection %d is open since line %d, and no line has ended it: write end %d before this' % (
             connection, since, connection)

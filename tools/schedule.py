@@ -1,12 +1,12 @@
-"""Which of several tasks run side by side: as many as there are processors, and as memory bears, and those first behind
-which the longest chain of others waits. A task has more than one job where processors would idle, now, or in the end
-because the chain that it begins takes longer than all that is left takes on all of them."""
+"""Decides which of several tasks run in parallel: as many as processors and memory allow, and first those for which the
+longest chain of other tasks waits. A task gets more than one job if processors would be idle otherwise: either now, or
+at the end, because the chain that begins with this task takes longer than all that is left takes on all processors."""
 import os
 import time
 
-MOST_JOBS = 4       # of one task
-MORE_MEMORY = 0.6   # what each further job takes of the memory of one
-MORE_SPEED = 0.6    # what each further job is thought to add to the speed of one
+MOST_JOBS = 4       # the most jobs of one task
+MORE_MEMORY = 0.6   # the memory of each further job, if the first one takes 1
+MORE_SPEED = 0.6    # the speed that each further job is expected to add, if the first one has 1
 
 
 def processors():
@@ -14,15 +14,15 @@ def processors():
 
 
 def free_memory():
-    """The MB that can be had without swapping, less what is left to others."""
+    """The MB that are available without swapping, less a part that is left to other programs."""
     with open('/proc/meminfo', encoding='ascii') as file:
         found = dict(line.split(':') for line in file)
     return 0.85 * int(found['MemAvailable'].split()[0]) / 1024
 
 
 class Task:
-    """What is to run, the names of the tasks that it waits for, and how many minutes of one processor and how many MB
-    it is thought to take. `begin` starts it with so many jobs, and returns what has `poll()`, None as long as it runs."""
+    """A task: its name, the names of the tasks that it waits for, and the expected processor minutes and MB. `begin`
+    starts it with a number of jobs, and returns an object whose `poll()` is None while it runs."""
 
     def __init__(self, name, after, minutes, memory, begin):
         self.name, self.after, self.minutes, self.memory, self.begin = name, after, minutes, memory, begin
@@ -38,7 +38,7 @@ class Running:
         return (time.monotonic() - self.began) / 60
 
     def work(self):
-        """The minutes of one processor that it has taken."""
+        """The minutes that it would have taken so far with one job."""
         return self.minutes() * speed(self.jobs)
 
     def left(self, pace):
@@ -50,7 +50,7 @@ def speed(jobs):
 
 
 def chains(tasks):
-    """For each task the minutes of the longest chain that begins with it, each waiting for the one before."""
+    """For each task, the minutes of the longest chain that begins with it, in which each waits for the previous one."""
     found = {}
 
     def chain(name):
@@ -65,8 +65,8 @@ def chains(tasks):
 
 
 def computed(tasks, lanes):
-    """The minutes that the tasks would take, one job each, with so many side by side and room for all of them: of those
-    that may begin the one with the longest chain begins first."""
+    """The minutes that the tasks would take with one job each, `lanes` of them in parallel, and memory for all. Of
+    those that may begin, the one with the longest chain begins first."""
     tasks = {task.name: task for task in tasks}
     first, now, done, running = chains(tasks), 0, set(), {}
     while len(done) < len(tasks):
@@ -81,7 +81,7 @@ def computed(tasks, lanes):
 
 
 class Schedule:
-    """The tasks, by name, those that are done and those under way."""
+    """All tasks, by name, those that are done, and those that are running."""
 
     def __init__(self, tasks, lanes=None, memory=None):
         self.tasks = {task.name: task for task in tasks}
@@ -95,23 +95,23 @@ class Schedule:
         return len(self.done) == len(self.tasks)
 
     def ready(self):
-        """The tasks that may begin, those with the longest chain first."""
+        """The tasks that may begin, those with the longest chains first."""
         found = [task for task in self.tasks.values() if task.name not in self.done and task.name not in self.running
                  and self.done.issuperset(task.after)]
         return sorted(found, key=lambda task: -self.chains[task.name])
 
     def is_pressing(self, task):
-        """Whether the task begins the longest chain that is left, and nothing but that chain decides when all ends."""
+        """Whether the task begins the longest chain that is left, and this chain alone decides when everything ends."""
         left = [other for other in self.tasks.values() if other.name not in self.done]
         longest = max(self.chains[other.name] for other in left)
         return self.chains[task.name] == longest > sum(other.minutes for other in left) / self.lanes
 
     def begin(self):
-        """Begins the tasks that may begin and for which there is room, and returns them."""
+        """Starts the tasks that may begin and for which there are processors and memory, and returns them."""
         begun, ready = [], self.ready()
         for at, task in enumerate(ready):
             room = self.memory - sum(run.memory for run in self.running.values())
-            # what waits for memory keeps those behind it waiting, which would take it again and again
+            # if a task waits for memory, the later ones wait too, because they would always take the memory first
             if len(self.running) >= self.lanes or self.running and task.memory > room:
                 break
             idle = self.lanes - sum(run.jobs for run in self.running.values())
@@ -123,7 +123,7 @@ class Schedule:
         return begun
 
     def ended(self):
-        """Takes those away that have ended, and returns them."""
+        """Removes the tasks that have ended from the running ones, and returns them."""
         found = [run for run in self.running.values() if run.run.poll() is not None]
         for run in found:
             del self.running[run.task.name]
@@ -137,19 +137,19 @@ class Schedule:
         return (time.monotonic() - self.began) / 60
 
     def measured(self):
-        """The minutes that tasks took here, and those that they were thought to take: of the tasks that have ended,
-        and of those under way that take longer than was thought."""
+        """The minutes that tasks took here, and the minutes that they were expected to take. Both count the tasks that
+        have ended, and the running ones that take longer than expected."""
         over = [run for run in self.running.values() if run.work() > run.task.minutes]
         return (self.taken + sum(run.work() for run in over),
                 self.thought + sum(run.task.minutes for run in over))
 
     def pace(self):
-        """How much longer than thought the tasks took so far."""
+        """The minutes that the tasks took so far, divided by the expected minutes."""
         taken, thought = self.measured()
         return taken / thought if thought > 1 else 1
 
     def left(self):
-        """The minutes that are thought to be left, by the longest chain and by all that is to be done."""
+        """The minutes that are expected to be left, by the longest chain and by the sum of the remaining work."""
         pace = self.pace()
         running = {name: run.left(pace) for name, run in self.running.items()}
         waiting = {name: task.minutes * pace for name, task in self.tasks.items()

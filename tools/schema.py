@@ -1,9 +1,9 @@
 #!/usr/bin/env python3
-"""What a store keeps of its application: its models, with their fields and groups, as the store's table `meta` has
-them. Reads them from a store and from an application, tells the first difference, and whether `upgrade` leads from the
-one to the other.
+"""Prints the schema of an application: its models, with their fields and groups, as the table `meta` of a store has
+them. The argument is the application. docs/USING.md, "A rename", says what the output is for.
 
-Words: an application, of which the schema's text is put. docs/USING.md, "A rename", says what that is for."""
+Other scripts use the functions here. They read the schema of a store or an application, find the first difference
+between two schemas, and say whether `upgrade` can convert a store."""
 import os
 import sqlite3
 import sys
@@ -13,12 +13,12 @@ sys.path.insert(0, os.path.dirname(os.path.abspath(__file__)))
 from arguments import script_parser                                         # noqa: E402
 import fault_place                                                          # noqa: E402
 
-# what an application of a schema alone gives as public values
+# the public values in an application that is made from a schema only
 PUBLIC = {'int': '0', 'text': '""', 'bool': 'false'}
 
 
 class Model:
-    """`groups` has for each group the fields that it guards, or the word `hides`."""
+    """A model of a schema. `groups` has for each group the fields that it guards, or the word `hides`."""
 
     def __init__(self, name, nested, fields, groups):
         self.name, self.nested, self.fields, self.groups = name, nested, fields, groups
@@ -58,7 +58,7 @@ def of_text(text):
 
 
 def of_store(path):
-    """The schema's text of a store that is in no other program's hands, or None where there is none to be read."""
+    """The schema's text of a store, or None if it can't be read, for example because another program uses the store."""
     if not os.path.isfile(path):
         return None
     try:
@@ -78,8 +78,8 @@ def group_text(group):
 
 
 def first_lack(old, new):
-    """The first part of the old models that the new ones lack or have otherwise, in words, or None where they extend
-    them."""
+    """The first part of the old models that is missing or different in the new ones, in words. None if the new models
+    extend the old ones."""
     for place, model in enumerate(old):
         if place >= len(new):
             return 'the model %s is missing' % model.name
@@ -96,7 +96,7 @@ def first_lack(old, new):
 
 
 def first_lack_in(old, new):
-    """The same of two models of one name."""
+    """The same for two models with the same name."""
     for place, (name, kind) in enumerate(old.fields):
         if place >= len(new.fields):
             return 'the field %s of %s is missing' % (name, old.name)
@@ -114,7 +114,7 @@ def first_lack_in(old, new):
 
 
 def likeness(old, new):
-    """What the first lack looks like, and what to do about it, or nothing."""
+    """What change the first such difference looks like, and what to do about it, or ''."""
     found = likeness_of(old, new, [model.name for model in old], [model.name for model in new], 'model %s', is_renamed)
     if found:
         return found
@@ -127,13 +127,13 @@ def likeness(old, new):
 
 
 def is_renamed(old, new):
-    """Whether two models differ in their names alone, as far as the names of fields and models go."""
+    """Whether two models look alike except for their own names: they have the same field names and the same groups."""
     return old.nested == new.nested and [name for name, _ in old.fields] == [name for name, _ in new.fields] and \
         old.groups == new.groups
 
 
 def likeness_of(old, new, names, others, what, is_alike):
-    """The same of two lists of models, or of fields, with the names of each."""
+    """The same for two lists of models, or of fields, with the names in each."""
     for place, name in enumerate(names):
         other = others[place] if place < len(others) else None
         if other == name:
@@ -151,7 +151,7 @@ def likeness_of(old, new, names, others, what, is_alike):
 
 
 def first_addition(old, new):
-    """The first part that the new models have beyond the old ones, which they extend."""
+    """The first part that the new models add to the old ones, which they extend, or None."""
     for model, other in zip(old, new):
         for name, _ in other.fields[len(model.fields):]:
             return 'the field %s of %s is new' % (name, model.name)
@@ -181,12 +181,12 @@ def model_text(model):
 
 
 def application(models):
-    """An application that has this schema and nothing else: what `upgrade` takes as the old one."""
+    """An application that has only this schema, for `upgrade` as the old application."""
     return '(app\n %s)\n' % '\n '.join(map(model_text, models))
 
 
 def schema_text(models):
-    """The schema's text, as a store keeps it."""
+    """The schema's text, as a store has it."""
     texts = []
     for model in models:
         groups = ' '.join(group if group == 'hides' else '(%s)' % ' '.join(group) for group in model.groups)
@@ -197,8 +197,8 @@ def schema_text(models):
 
 
 def told(command, store, apps):
-    """What to say of a store that isn't one of the application that a command is given, or of two applications of an
-    upgrade, or nothing. `apps` are the applications' names, each with its text."""
+    """A message if the store belongs to another application than the command's, or if the two applications of an
+    upgrade don't fit, or ''. `apps` has the name and the text of each application of the command."""
     models = [of_application(data) for _, data in apps]
     stored = of_store(store) if store else None
     if command == 'upgrade' and stored is not None and len(apps) == 2 and is_same(of_text(stored), models[1]):
@@ -213,7 +213,8 @@ def told(command, store, apps):
 
 
 def of_other(command, store, old, name, new):
-    """The first difference, and whether an upgrade leads from the store to the application."""
+    """A message with the first difference between the store's schema and the application's. It says whether an upgrade
+    can convert the store."""
     lack = first_lack(old, new)
     if lack:
         words = '%s keeps records of another application. Compared with it, in %s %s.' % (store, name, lack)

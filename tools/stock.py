@@ -1,7 +1,8 @@
 #!/usr/bin/env python3
-"""Copies the libraries that a gate has proved in one clone into another, so that `rt check` there doesn't prove the
-crates below once more. Takes a library only where its text, and that of all below it, is the same in both, and tells
-which it took. It is an aid for whoever works on a crate: the gate itself takes nothing that was kept."""
+"""Copies the libraries that a gate has proved from one clone to another, so that `rt check` there needn't prove the
+lower crates again. A library is copied only if the text of its crate and of all lower crates is the same in both
+clones. The script prints the names of the libraries that it copied. It helps whoever works on a crate. The gate doesn't
+use these libraries."""
 import argparse
 import os
 import shutil
@@ -31,7 +32,7 @@ def crates(rtlib, top):
 
 
 def holds(crate, stamp):
-    """Whether the crate's library is there, and isn't known to be of an earlier text. A gate leaves no stamp beside it."""
+    """Whether the crate has a library that isn't known to be out of date. A gate writes no stamp beside a library."""
     path = os.path.join(crate.folder, 'out', 'rlib', 'stamp')
     if not os.path.isfile(path):
         return os.path.isdir(crate.rlib)
@@ -58,8 +59,8 @@ def stock(rtlib, top, source):
 
 def main():
     words = argparse.ArgumentParser(description=__doc__)
-    words.add_argument('clone', help='the clone that lacks them')
-    words.add_argument('source', help='the clone that has them')
+    words.add_argument('clone', help='the clone to copy to')
+    words.add_argument('source', help='the clone to copy from')
     given = words.parse_args()
     stock(load(), os.path.abspath(given.clone), os.path.abspath(given.source))
 

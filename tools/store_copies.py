@@ -1,11 +1,11 @@
 #!/usr/bin/env python3
-"""Copies of a store: one of a store that may be served meanwhile, and one that is kept before an upgrade.
+"""Copies a store, either while it is served or before an upgrade.
 
     python3 tools/store_copies.py upgrade PROGRAM .. upgrade OLD NEW --db FILE
 
-copies the store, with its log, to FILE.before-upgrade-N, where N is the first free number, says so on standard error,
-and becomes the program with these words. Where there is no copy the program isn't run, and the store is left as it is.
-A store that isn't there needs none."""
+copies the store and its log to FILE.before-upgrade-N, where N is the first free number, and says so on standard error.
+Then the command from PROGRAM on replaces this process. If the copy can't be made, the command isn't run, and the store
+stays as it is. If there is no store, nothing is copied."""
 import fcntl
 import os
 import shutil
@@ -21,17 +21,17 @@ import commands                                                             # no
 
 BACKUP = os.path.join(os.path.dirname(TOOLS), 'deploy', 'backup.py')
 LOG = '-wal'
-# the bytes that SQLite locks of a database: who has them all is alone with the file
+# the bytes of a database that SQLite locks; whoever has locked all of them uses the file alone
 LOCK_AT, LOCK_SIZE = 0x40000000, 512
 STORE_FAULT = 6
 
 
 class Fault(Exception):
-    """Why there is no copy."""
+    """The reason why there is no copy."""
 
 
 def copy_served(store, target):
-    """Copies a store, which may be served meanwhile, to a file that isn't there yet."""
+    """Copies a store, which may be served meanwhile, to a file that doesn't exist yet."""
     done = subprocess.run([sys.executable, BACKUP, store, target], stdin=subprocess.DEVNULL, stdout=subprocess.PIPE,
                           stderr=subprocess.STDOUT, check=False)
     if done.returncode:
@@ -40,7 +40,7 @@ def copy_served(store, target):
 
 
 def write_new(source, target):
-    """Copies an open file to a new one that the same people may read, and waits until the disk has it."""
+    """Copies an open file to a new one with the same permissions, and waits until it is on the disk."""
     old = os.fstat(source.fileno())
     with open(os.open(target, os.O_WRONLY | os.O_CREAT | os.O_EXCL, 0o600), 'wb') as file:
         try:
@@ -54,7 +54,7 @@ def write_new(source, target):
 
 
 def free_name(store):
-    """The first name for the copy of a store that neither a file nor a log has."""
+    """The first name for a copy of the store that is free, both for the file and for its log."""
     number = 1
     while any(os.path.lexists('%s.before-upgrade-%d%s' % (store, number, end)) for end in ('', LOG)):
         number += 1
@@ -62,8 +62,8 @@ def free_name(store):
 
 
 def write_both(file, store, target):
-    """Copies a store, whose open file nobody else may write, and the log beside it. The log is first, so that a copy
-    never lacks it."""
+    """Copies a store and the log beside it. `file` is the open store, which nobody else may write. The log is copied
+    first, so that a copy is never without it."""
     has_log = os.path.exists(store + LOG)
     if has_log:
         with open(store + LOG, 'rb') as log:
@@ -80,7 +80,8 @@ def write_both(file, store, target):
 
 
 def copy_before_upgrade(store):
-    """The name of the copy. The locks are let go where any descriptor of the file is closed, so it is opened once."""
+    """Copies the store, and returns the copy's name. The file is opened only once, because its locks are released when
+    any of its descriptors is closed."""
     with open(store, 'r+b') as file:
         try:
             fcntl.lockf(file, fcntl.LOCK_EX | fcntl.LOCK_NB, LOCK_SIZE, LOCK_AT)
@@ -96,7 +97,7 @@ def tell(text):
 
 
 def keep_before(words):
-    """Copies the store that these words of a command upgrade, where there is one. Ends the run where it can't."""
+    """Copies the store that a command with these arguments upgrades, if there is one. Exits if it can't be copied."""
     store = commands.value_of(words, '--db')
     if store is None or commands.fault(words) or not os.path.isfile(store):
         return
@@ -115,7 +116,7 @@ def main(words):
         return
     command = words[1:]
     keep_before(command[command.index('upgrade', 1):])
-    # a program that takes this one's place would go on to ignore what Python ignores
+    # Python ignores these signals, and the program would inherit that
     signal.signal(signal.SIGPIPE, signal.SIG_DFL)
     signal.signal(signal.SIGXFSZ, signal.SIG_DFL)
     os.execvp(command[0], command)

@@ -1,6 +1,6 @@
-"""What is the matter with a store that the program refused with `store fault`, in the reader's words, and what can be
-done. The program decides, and says a cause of its own; this looks at the file, and at a copy of it, and changes neither.
-docs/USING.md, "A store that is refused", has the cases, and `checks/stores.py` brings them about."""
+"""Says what is wrong with a store that the program refused with `store fault`, and what can be done. The program
+decides, and prints a cause of its own. This module reads the file and a copy of it, and changes neither. docs/USING.md,
+"A store that is refused", lists the cases, and `checks/stores.py` tests them."""
 import contextlib
 import fcntl
 import os
@@ -10,13 +10,13 @@ import struct
 import tempfile
 
 MAGIC, HEADER = b'SQLite format 3\0', 100
-# how a journal begins that SQLite has to play back
+# the first bytes of a journal that SQLite has to play back
 JOURNAL = bytes.fromhex('d9d505f920a163d7')
-# where the header has the page of the largest root, which is none without auto_vacuum
+# the bytes of the header with the largest root page, which are 0 without auto_vacuum
 LARGEST_ROOT = slice(52, 56)
 LOCK_AT, LOCK_SIZE = 0x40000000, 512
 LAST = 2 ** 40
-# no larger store is copied for what there is to say of it: where a run was refused, and before one
+# the most bytes of a store that is copied for a message: after a run was refused, and before a run
 MOST_COPIED, MOST_COPIED_BEFORE = 1 << 28, 1 << 24
 TABLES = ('meta', 'rec')
 BACKUP = 'put a backup in its place (docs/DEPLOYING.md, "Backups")'
@@ -24,7 +24,7 @@ TAKE_BACKUP = 'P' + BACKUP[1:]
 
 
 def told(store, most=MOST_COPIED):
-    """What to say of a store, or nothing; of a store of more bytes than `most` without a look at its tables."""
+    """What is wrong with a store, or ''. If the store has more than `most` bytes, its tables aren't read."""
     if os.path.isdir(store):
         return '%s is a folder, and a store is a file' % store
     if not os.path.isfile(store):
@@ -39,7 +39,7 @@ def told(store, most=MOST_COPIED):
 
 
 def holder_of(file):
-    """The number of a process that has locks on the open file, or None."""
+    """The id of a process that has locks on the open file, or None."""
     lock = struct.pack('hhqqi4x', fcntl.F_WRLCK, os.SEEK_SET, LOCK_AT, LOCK_SIZE, 0)
     kind, _, _, _, process = struct.unpack('hhqqi4x', fcntl.fcntl(file, fcntl.F_GETLK, lock))
     return process if kind != fcntl.F_UNLCK else None
@@ -70,7 +70,8 @@ def of_header(store, header):
 
 
 def of_journal(store):
-    """A journal that was left by a program which was ended amid a change. The program's own changes leave none."""
+    """A message about a journal that another program left because it ended in the middle of a change, or ''. `jac`
+    leaves no journals."""
     try:
         with open(store + '-journal', 'rb') as file:
             is_hot = file.read(len(JOURNAL)) == JOURNAL
@@ -93,7 +94,7 @@ def of_content(store, most):
 
 @contextlib.contextmanager
 def copied(store, most):
-    """A connection to a copy of a store and its log, or None of one that is too large."""
+    """A connection to a copy of a store and its log, or None if they are too large."""
     paths = [store + end for end in ('', '-wal') if os.path.isfile(store + end)]
     if sum(map(os.path.getsize, paths)) > most:
         yield None
@@ -132,7 +133,7 @@ def some_of(others):
 
 
 def of_meta(store, copy):
-    """What is wrong with the one row of the table meta, which has the number of the next request."""
+    """What is wrong with the one row of the table `meta`, which has the number of the next request, or ''."""
     rows = copy.execute('SELECT k, number FROM meta').fetchall()
     if len(rows) != 1 or rows[0][0] != 0:
         return 'the table meta of %s has %s, where a store has one row, with k = 0. %s' % (
@@ -149,7 +150,7 @@ def of_meta(store, copy):
 
 
 def least_number(copy):
-    """The least number that the next request may have: it is one more than that of each record."""
+    """The least number that the next request may have: greater than that of each request that made a record."""
     records = (int.from_bytes(row[0], 'big') for row in copy.execute('SELECT DISTINCT jid FROM rec') if
                isinstance(row[0], bytes))
     return max((record % 2 ** 52 // 4096 for record in records), default=0) + 1

@@ -1,17 +1,17 @@
 #!/usr/bin/env python3
-"""Tests an application by walks: files of requests, each with what is expected of its reply.
+"""Tests an application with walks: files of requests and expected replies.
 
     as ann POST /events title="Interview" -> 303 /event/{interview}
     as dan GET /event/{interview}
       has "busy"
       lacks "Interview"
 
-Each walk begins with no records, and its requests are answered by `jac replay` over a store of its own. Without WALK
-the walks are the files `walk` and `*.walk` beside the application, or NAME.walk beside NAME.app. The tokens of a file
-`sessions` beside it are names of who asks.
+Each walk begins without records, and has a store of its own. `jac replay` answers its requests. Without WALK, the walks
+are the files `walk` and `*.walk` beside the application (in it, if it is a folder), or NAME.walk beside NAME.app. The
+tokens of the file `sessions` in the same place are names of viewers.
 
-The exit status is 0 where all is as expected, 1 where something is not, and 2 where a walk has no form, names what the
-application does not have, or cannot be run. docs/USING.md, "Walks", has the grammar."""
+The exit status is 0 if all replies are as expected, and 1 if one isn't. It is 2 if a walk is malformed, names something
+that the application doesn't have, or can't be run. docs/USING.md, "Walks", has the grammar."""
 import argparse
 import contextlib
 import glob
@@ -33,21 +33,21 @@ import walk_page                                                            # no
 from walk_file import Malformed                                             # noqa: E402
 
 TOP = os.path.dirname(os.path.dirname(os.path.abspath(__file__)))
-# a store of a walk outlives nothing, so it is in memory where that can be
+# a walk's store is temporary, so it is in memory if that is possible
 ROOM = '/dev/shm' if os.access('/dev/shm', os.W_OK) else None
 REPLY = re.compile(rb'reply (\d+) "((?:[^"\\]|\\.)*)" "((?:[^"\\]|\\.)*)"\n')
 ESCAPED = re.compile(rb'\\(n|r|\\|"|x([0-9a-fA-F]{2}))')
 PLAIN = {b'n': b'\n', b'r': b'\r', b'\\': b'\\', b'"': b'"'}
-# what a browser leaves as it is in the address that it asks for
+# the characters that a browser doesn't encode in the address of a request
 KEPT = "!$%&'()*+,-./:;=?@_~"
 
 
 class Stopped(Exception):
-    """The program refused what it was given, or ended where it shouldn't."""
+    """The program refused its input, or ended unexpectedly."""
 
 
 class Application:
-    """An application, and what its parts are called. One that is a folder is put together in a file of `room`."""
+    """An application, and the names of its parts. If it is a folder, it is joined into a file in the folder `room`."""
 
     def __init__(self, path, room):
         data, self.path = assemble.read(path), path
@@ -66,7 +66,8 @@ class Application:
             self.params.setdefault(view.children[1].value.upper(), set()).update(names)
 
     def label(self, number, field):
-        """The label under which a record's field is shown, or the record itself where no field is named; or why not."""
+        """The label that shows a field of a record, or the record itself if no field is named. If there is no such
+        label, a message that says why."""
         model = number % 64
         name = self.models[model]
         if not field:
@@ -82,7 +83,7 @@ class Application:
 
 
 class Reply:
-    """A reply, and the labels of its audit's line; none where there was no page."""
+    """A reply, and the labels of its audit line, none if there was no page."""
 
     def __init__(self, found, shown):
         location, body = (plain(part).decode(errors='replace') for part in found.groups()[1:])
@@ -103,7 +104,7 @@ def quoted(text):
 
 
 class Store:
-    """The records of one walk, in a file of a folder of its own."""
+    """The store of one walk, in a folder of its own."""
 
     def __init__(self, program, folder):
         self.program, self.folder, self.asked = program, folder, []
@@ -136,7 +137,7 @@ class Store:
             return [Reply(reply, line.split()[3]) for reply, line in zip(found, file)]
 
     def last_made(self):
-        """The ids of the records that the last request made which had a number."""
+        """The ids of the records that the last numbered request made."""
         with contextlib.closing(sqlite3.connect(self.file)) as base:
             number = base.execute('SELECT number FROM meta').fetchone()[0] - 1
             found = [int.from_bytes(row[0], 'big') for row in base.execute('SELECT DISTINCT jid FROM rec')]
@@ -151,17 +152,17 @@ def event(viewer, method, target, body):
 
 
 def in_order(numbers):
-    """The records that one request made, in the order of their creates, and those of a loop in the loop's order."""
+    """The records that one request made, in the order of its `create` statements, and in a loop in the loop's order."""
     return sorted(numbers, key=lambda number: (number % audit.LOOP // 64 % 64, number // audit.LOOP))
 
 
 def address(text):
-    """A path as a browser asks for it: what may not stand in it is encoded."""
+    """A path as a browser requests it, with the characters encoded that aren't allowed."""
     return urllib.parse.quote(text, safe=KEPT)
 
 
 class Walk:
-    """One walk under way: what is called what, and what was not as expected."""
+    """A running walk: the names of its records, and what wasn't as expected."""
 
     def __init__(self, application, sessions, store):
         self.application, self.sessions, self.store = application, sessions, store
@@ -173,7 +174,7 @@ class Walk:
         self.failures.append('%s:%d: %s\n%s' % (*place, source, '\n'.join('    ' + line for line in words)))
 
     def go(self, steps, told_of=None):
-        """Goes the steps. Requests wait until something has to be known of a reply, and are then asked in one run."""
+        """Runs the steps. Requests are collected until a reply is needed, and are then answered in one run."""
         self.told_of = told_of
         for step in steps:
             lacking = [name for name in self.names(step) if name not in self.ids and self.sessions.get(name) != '-']
@@ -200,7 +201,7 @@ class Walk:
             self.answer()
 
     def answer(self):
-        """Has the requests answered that wait, and compares each reply with what is expected of it."""
+        """Has the program answer the collected requests, and compares each reply with what is expected of it."""
         waiting, self.waiting = self.waiting, []
         if not waiting:
             return
@@ -215,7 +216,7 @@ class Walk:
 
     @staticmethod
     def names(step):
-        """The names that a step and what is expected of it speak of, but for those that it gives itself."""
+        """The names that a step and its expectations use, without those that the step itself defines."""
         words = [step.target, step.location] + [word for _, word in step.fields]
         words += [word for look in step.looks for word in look.texts]
         names = [name for word in words if word for name in word.names()]
@@ -224,7 +225,7 @@ class Walk:
         return [name for name in names if name not in step.gives]
 
     def request(self, step):
-        """The line of events that a step is."""
+        """The line of events for a step."""
         self.who = self.viewer(step)
         known = self.application.params.get('GET' if step.method == 'HEAD' else step.method, set())
         for name, _ in step.fields:
@@ -238,7 +239,7 @@ class Walk:
         return event(self.who, step.method, target, form)
 
     def viewer(self, step):
-        """The number of who asks, as events have it."""
+        """The viewer of a step, as in a line of events."""
         who = self.sessions.get(step.who) or self.ids.get(step.who, '-')
         model = self.application.models[who % 64] if who != '-' and who % 64 < len(self.application.models) else None
         if model != self.application.viewer and step.who in self.ids and step.who not in self.sessions:
@@ -247,7 +248,7 @@ class Walk:
         return who
 
     def followed(self, step):
-        """The line of events that asks for the location of the last reply."""
+        """The line of events that requests the location of the last reply."""
         if not self.reply.location.startswith('/'):
             raise Malformed(step.place, 'the reply before has no location of this application: %s' % self.reply.line())
         return event(self.who, 'GET', self.reply.location, '')
@@ -300,7 +301,7 @@ class Walk:
                                                 '+ ' + self.reply.line()])
 
     def of_labels(self, look):
-        """What is wrong with the labels of the page, in words; nothing where it is as expected."""
+        """Lines that say what is wrong with the labels of the page, or None."""
         wanted = []
         for record, field in look.labels:
             number = self.application.label(self.ids[record], field)
@@ -318,7 +319,7 @@ class Walk:
         return wrong + ['what is shown: ' + (told or 'nothing that is guarded')] if wrong else None
 
     def told(self, label):
-        """A label by the names that the walk gave, or else as the audit in words has it."""
+        """A label by the name that the walk gave its record, or else as in the audit in words."""
         record = next((name for name, number in self.ids.items() if number == label // 8), None)
         text, fields = self.application.names.label(label)
         text = record or text
@@ -327,7 +328,7 @@ class Walk:
 
 
 def sessions_of(path):
-    """Who each token of a sessions file stands for."""
+    """The viewer of each token of a sessions file."""
     with open(path, encoding='ascii', errors='replace') as file:
         rows = [line.split() for line in file if line.strip()]
     found = {}
@@ -338,7 +339,7 @@ def sessions_of(path):
 
 
 def beside(application, name):
-    """A file beside an application, and in its folder where it is one."""
+    """The path of a file beside an application, or in it if the application is a folder."""
     folder = application if os.path.isdir(application) else os.path.dirname(application)
     return os.path.join(folder, name)
 
@@ -352,7 +353,7 @@ def walks_of(application):
 
 
 def tell(walk, step):
-    """What `--verbose` says of a step: its reply, what was made and which labels are shown."""
+    """Prints what `--verbose` says about a step: its reply, the records that it made, and the labels that are shown."""
     named = ', '.join('%s = %s' % (name, walk.ids.get(name)) for name in step.gives if name != '_')
     print('%s:%d: %s\n    %s%s\n    shows %s' % (
         *step.place, step.source, walk.reply.line(), ', ' + named if named else '',
@@ -362,7 +363,7 @@ def tell(walk, step):
 
 
 def walked(program, application, steps, sessions, given):
-    """What was not as expected on one walk, and how many steps it went."""
+    """Runs one walk, prints what wasn't as expected, and returns the walk."""
     with tempfile.TemporaryDirectory(dir=ROOM) as folder:
         store = Store(program, folder)
         walk = Walk(application, sessions, store)
@@ -378,7 +379,7 @@ def walked(program, application, steps, sessions, given):
 
 
 def walk_all(program, application, walks, sessions, given):
-    """Whether all walks went as expected."""
+    """Runs all walks, and returns whether all replies were as expected."""
     failed = 0
     for path in walks:
         steps = walk_file.read(path, sessions)
@@ -391,7 +392,7 @@ def walk_all(program, application, walks, sessions, given):
 
 
 def refusal(program, path):
-    """What the program says against an application, with its place; nothing where it is well."""
+    """What the program says about a faulty application, with the fault's place. None if there is no fault."""
     tools = os.path.join(TOP, 'tools', '')
     is_script = program == [os.path.join(TOP, 'jac')]
     start = [sys.executable, tools + 'run_folder.py'] if os.path.isdir(path) and not is_script else []
@@ -409,13 +410,13 @@ def refusal(program, path):
 def parser():
     words = argparse.ArgumentParser(prog='walk', description=__doc__,
                                     formatter_class=argparse.RawDescriptionHelpFormatter)
-    words.add_argument('application', metavar='APP', help='the application: a file, or a folder that has its parts')
-    words.add_argument('walks', metavar='WALK', nargs='*', help='the walks, or none for those beside the application')
-    words.add_argument('--sessions', metavar='FILE', help='the sessions whose tokens are names of who asks')
-    words.add_argument('--verbose', '-v', action='store_true', help='say what each request was answered')
+    words.add_argument('application', metavar='APP', help='the application: a file, or a folder with its parts')
+    words.add_argument('walks', metavar='WALK', nargs='*', help='the walks (default: those beside the application)')
+    words.add_argument('--sessions', metavar='FILE', help='the sessions, whose tokens are names of viewers')
+    words.add_argument('--verbose', '-v', action='store_true', help='print the reply to each request')
     words.add_argument('--events', metavar='FILE', help='write the requests of the last walk as events, for jac replay')
     words.add_argument('--program', metavar='PROGRAM', default=os.path.join(TOP, 'jac'),
-                       help='the program that answers, or the script jac, which chooses it')
+                       help='the program that answers the requests, or the script jac, which chooses it')
     return words
 
 
@@ -437,7 +438,7 @@ def main():
     try:
         return 0 if run(given) else 1
     except BrokenPipeError:
-        # whoever reads has enough, and what is left to flush has no reader either
+        # the reader is gone, so the output that isn't flushed yet has no reader either
         os.dup2(os.open(os.devnull, os.O_WRONLY), sys.stdout.fileno())
     except Malformed as fault:
         print(fault)

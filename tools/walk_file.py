@@ -1,7 +1,7 @@
 """Reads walks: files of steps that test an application. docs/USING.md, "Walks", has the grammar.
 
-`read` returns the steps of a file, each with what is expected of its reply. A file that has no form is refused with
-the number of its line."""
+`read` returns the steps of a file, each with what is expected of its reply. If a line is malformed, the file is
+refused, with the number of this line."""
 import difflib
 import os
 import re
@@ -18,14 +18,14 @@ MOST_NAMES = 12
 
 
 class Malformed(Exception):
-    """A line that has no form, or means nothing in this application."""
+    """A line is malformed, or names something that the application doesn't have."""
 
     def __init__(self, place, words):
         super().__init__('%s:%d: %s' % (*place, words))
 
 
 class Word:
-    """A word of a line: texts, and the names in braces that stand for ids, as lists of one name each."""
+    """A word of a line. Its parts are texts, and names in braces for ids, each as a list of one name."""
 
     def __init__(self):
         self.parts, self.quoted = [], False
@@ -37,7 +37,7 @@ class Word:
             self.parts.append(text)
 
     def plain(self):
-        """The word as it stands, where it has neither quotes nor names in braces."""
+        """The word as a text, or None if it has quotes or names in braces."""
         return self.parts[0] if len(self.parts) == 1 and not self.quoted and isinstance(self.parts[0], str) else None
 
     def names(self):
@@ -47,7 +47,8 @@ class Word:
         return ''.join(part if isinstance(part, str) else str(ids[part[0]]) for part in self.parts)
 
     def split(self, mark):
-        """The text before the first mark, and the word after it; nothing where the word doesn't begin with text."""
+        """The text before the first mark, and the word after it. None if the word doesn't begin with a text that has
+        the mark."""
         if not self.parts or not isinstance(self.parts[0], str) or mark not in self.parts[0]:
             return None
         before, _, after = self.parts[0].partition(mark)
@@ -88,7 +89,8 @@ class Line:
             raise self.bad('a text in quotes has no end on this line; \\n in it is a line feed')
 
     def put(self, word, text, at, inside):
-        """Adds what is at this place to the word: whether a text in quotes is open then, and the place of its end."""
+        """Adds what is at this offset to the word. Returns whether a text in quotes is open now, and the offset of the
+        last character that was read."""
         if text[at] == '"':
             word.quoted = True
             word.add('')
@@ -132,7 +134,7 @@ class Line:
 
 
 class Look:
-    """Something that is expected of a reply: `kind` is a word of OF_TEXTS or OF_LABELS, or `only`."""
+    """One thing that is expected of a reply. `kind` is a word of OF_TEXTS or OF_LABELS, or `only`."""
 
     def __init__(self, line, kind):
         self.place, self.source, self.kind = line.place, line.source, kind
@@ -140,7 +142,7 @@ class Look:
 
 
 class Step:
-    """A request (`as`), or one for the location of the last reply (`follow`), or an `upgrade`."""
+    """A request (`as`), a request for the location of the last reply (`follow`), or an `upgrade`."""
 
     def __init__(self, line, kind):
         self.place, self.source, self.kind = line.place, line.source, kind
@@ -188,7 +190,7 @@ class Reader:
 
     @staticmethod
     def gives(line):
-        """The names before `=`, each of which is for a record that the request makes."""
+        """The names before `=`, one for each record that the request makes."""
         plain = [word.plain() for word in line.words]
         if '=' not in plain:
             return []
@@ -241,7 +243,7 @@ class Reader:
         self.wanted(line, step)
 
     def wanted(self, line, step):
-        """What may stand at the end of a step: `-> STATUS` and a location."""
+        """Reads the end of a step, which may have `-> STATUS` and a location."""
         self.steps.append(step)
         if not line.more():
             return
@@ -287,7 +289,7 @@ class Reader:
         return look
 
     def label(self, line):
-        """A record's name and a guarded field of it, or nothing for the record itself, which a group hides."""
+        """Reads the name of a record and a guarded field, or the name of a record that a group hides and ''."""
         word = line.take('a record').plain() or ''
         record, dot, field = word.partition('.')
         if not NAME.fullmatch(record) or dot and not NAME.fullmatch(field):
@@ -302,7 +304,7 @@ class Reader:
                 raise line.bad('nothing is called %s%s' % (name, meant(name, sorted(self.known)) or self.names_here()))
 
     def names_here(self):
-        """The names that a line may speak of, in words."""
+        """The end of a message, with the names that a line may use."""
         names = sorted(self.known)
         if not names:
             return ': no line before this names a record, as in: ann = as nobody POST /join, and no session has a name'
@@ -310,7 +312,7 @@ class Reader:
 
 
 def lines(path, texts):
-    """The lines that have words; one that ends with a backslash goes on with the next one."""
+    """The lines that have words. A line that ends with a backslash is continued by the next one."""
     text, start = '', None
     for number, piece in enumerate(texts, 1):
         start = start or number
@@ -339,7 +341,7 @@ def unknown(line):
 
 
 def read(path, sessions):
-    """The steps of a file, in which the names of the sessions are known."""
+    """The steps of a file. The file may use the names in `sessions`."""
     reader = Reader(sessions)
     reader.file(path)
     return reader.steps

@@ -1,23 +1,23 @@
-"""Compares texts with a page of HTML: as it was sent, and as it reads in a browser, without its tags."""
+"""Compares texts with an HTML page, both as it was sent and as a browser shows it, without tags."""
 import difflib
 import html
 import html.parser
 
-# tags that a browser draws within a line; every other one begins and ends a line
+# tags of elements within a line; every other tag begins and ends a line
 WITHIN = frozenset('a abbr b bdi bdo big cite code data del dfn em font i ins kbd label mark q s samp small span '
                    'strike strong sub sup time tt u var'.split())
 UNSEEN = frozenset(('style', 'script'))
-# cells of a row are side by side, as are the choices of a list
+# elements that are side by side, such as the cells of a row or the options of a list
 BESIDE = frozenset('td th option input button select textarea'.split())
 MOST_LINES = 30
 
 
 class Reading(html.parser.HTMLParser):
-    """The lines of a page as it reads."""
+    """Collects the text of a page as a browser shows it."""
 
     def __init__(self, is_text):
         super().__init__(convert_charrefs=True)
-        # how many elements are open that aren't seen, and in which a line feed ends a line
+        # how many elements are open that aren't shown, and how many in which a line feed ends a line
         self.parts, self.unseen, self.kept = [], 0, int(is_text)
 
     def handle_starttag(self, tag, attrs):
@@ -40,7 +40,7 @@ class Reading(html.parser.HTMLParser):
 
 
 def lines(body):
-    """The lines of a page as it reads in a browser; a page without a tag is text, and reads as it is."""
+    """The lines of a page as a browser shows it. A page without tags is plain text."""
     reading = Reading('<' not in body)
     reading.feed(body)
     reading.close()
@@ -49,8 +49,8 @@ def lines(body):
 
 
 def readings(body):
-    """All that a text is looked for in: the page as it was sent, with its characters in place of their escapes, and as
-    it reads, each run of white space one space."""
+    """The page in the three ways in which a text is looked for: as it was sent, with its escapes decoded, and as a
+    browser shows it, with one space for each run of white space."""
     return body, html.unescape(body), ' '.join(lines(body))
 
 
@@ -67,7 +67,7 @@ def shortened(found):
 
 
 def wrong(body, kind, texts):
-    """What is wrong with a page, as lines of a diff: `-` is what was expected, `+` is what there is."""
+    """What is wrong with a page, as lines of a diff, or None. `-` is what was expected, and `+` is what is there."""
     if kind == 'is':
         if body == texts[0]:
             return None
@@ -83,7 +83,7 @@ def wrong(body, kind, texts):
 
 
 def lacking(body, text):
-    """The page as it reads, with the text before the line that is nearest to it, or before the page."""
+    """The page as a browser shows it, with the missing text before the most similar line, or before the page."""
     page = lines(body)
     near = difflib.get_close_matches(text, page, 1, 0.3)
     at = page.index(near[0]) if near else 0
@@ -94,7 +94,7 @@ def lacking(body, text):
 
 
 def standing(body, text):
-    """The lines of the page that have the text: as it reads, or else as it was sent."""
+    """The lines of the page that have the text, as a browser shows them, or else as they were sent."""
     as_read = ' '.join(text.split())
     found = [line for line in lines(body) if as_read and as_read in line]
     found = found or [line for line in body.split('\n') if text in line or text in html.unescape(line)]

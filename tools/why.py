@@ -1,18 +1,19 @@
 #!/usr/bin/env python3
-"""Says in words what `jac why` put: what the viewer is shown, and for each thing that stays hidden why it does.
+"""Puts the output of `jac why` into words: what the viewer is shown, and why the rest is hidden.
 
   ./jac why examples/calendar.app 8192 --db raid.db | python3 tools/why.py examples/calendar.app --db raid.db
 
-The first line is `shown LABELS`, each further one `LABEL MODEL ID GROUP because LABEL MODEL ID GROUP`: the guarded
-fields of that record, or the record itself where the group hides it, stay hidden, because with them the second label
-isn't allowed. Mostly that is the label itself, for one of two reasons, which the lines don't tell apart:
+The first line of that output is `shown LABELS`. Each further line is `LABEL MODEL ID GROUP because LABEL MODEL ID
+GROUP`. The first label is for the guarded fields of a record, or for the record itself if the group hides it. It is
+hidden, because if it were shown, the second label wouldn't be allowed. Usually both labels are the same. Then there are
+two possible reasons, which the line doesn't tell apart:
 
-  - its policy is false, or
-  - its record isn't there: it was stored where another label is shown, and that one is hidden from this viewer.
+  - the label's policy is false, or
+  - its record isn't there: it was stored only where another label is shown, and that label is hidden from this viewer.
 
-With --db, the file of the store, this says which, and in the second case why the other label is hidden. The file is
-copied first, and never written. Where the second label is another one, the first could be shown alone, and not beside
-what is shown."""
+With --db, this script says which reason it is, and for the second one why the other label is hidden. It reads a copy of
+the store's file, and never writes the file. If the two labels differ, the first one could be shown alone, but not
+beside what is shown."""
 import argparse
 import contextlib
 import os
@@ -31,12 +32,12 @@ import fault_place                                                          # no
 
 LINE = re.compile(r'(\d+) (\S+) (\d+) (\d+) because (\d+) (\S+) (\d+) (\d+)')
 SHOWN = re.compile(r'shown (-|\d+(?:,\d+)*)')
-# A label in a row: 16 bytes, and one that is 1 where the row is there if the label is shown, and 0 if it is hidden.
+# The size of a label in a row: 16 bytes for the label, and one that is 1 if the row needs it shown, and 0 if hidden.
 LITERAL = 17
 
 
 class Policies:
-    """The policy of each label: the line where it is, and its text on one line."""
+    """The policy of each label: the line where it begins, and its text on one line."""
 
     def __init__(self, path, data):
         self.path, self.data = path, data
@@ -54,7 +55,8 @@ class Policies:
 
 
 class Store:
-    """Under which labels each record of a store is there: for each of its rows those that are shown or hidden."""
+    """The rows of each record of a store. A row has the labels that must be shown, and those that must be hidden, for
+    the row to be there."""
 
     def __init__(self, rows):
         self.rows = {}
@@ -65,7 +67,7 @@ class Store:
 
     @classmethod
     def of_file(cls, path):
-        """The store in a file, of which a copy is read, since SQLite may write to a file that it opens."""
+        """The store in a file. A copy is read, because SQLite may write to a file that it opens."""
         with tempfile.TemporaryDirectory() as folder:
             copy = os.path.join(folder, 'store')
             shutil.copyfile(path, copy)
@@ -75,7 +77,8 @@ class Store:
                 return cls(database.execute('SELECT jid, jvars FROM rec ORDER BY model, jid, alt').fetchall())
 
     def lacks(self, record, world):
-        """Nothing where a record is there in a world; else, for each way in which it could be, what the world lacks."""
+        """An empty list if a record is there in a world. Otherwise, for each way in which it could be there, the labels
+        that the world would have to show or to hide."""
         ways = [{(label, shown) for label, shown in row if (label in world) != shown}
                 for row in self.rows.get(record, [])]
         if set() in ways:
@@ -85,7 +88,7 @@ class Store:
 
 
 class Why:
-    """What is to be said of the lines, given the application, and the store or None."""
+    """Puts the lines into words. `store` is None if there is no --db."""
 
     def __init__(self, names, policies, store, lines):
         self.names, self.policies, self.store, self.lines = names, policies, store, lines
@@ -112,7 +115,7 @@ class Why:
                 yield 'not a line of `why`: ' + line
 
     def hidden(self, head, indent, label, seen):
-        """Why a label stays hidden. `seen` has the labels of which that was said."""
+        """Lines that say why a label is hidden. `seen` has the labels for which that was said already."""
         reason = self.reasons[label]
         lacks = self.store.lacks(reason // 8, self.shown | {label}) if self.store else []
         yield head
@@ -134,7 +137,7 @@ class Why:
                 indent, self.policies.told(label))
 
     def needed(self, label, indent, seen):
-        """Why a label is hidden by which a record isn't there."""
+        """Lines that say why a label is hidden that must be shown for a record to be there."""
         if label in self.reasons:
             yield from self.hidden('%sand %s stays hidden' % (indent, self.named(label)), indent + '    ', label, seen)
         elif label // 8 in self.store.rows:
@@ -150,8 +153,8 @@ class Why:
 def options(words):
     parser = argparse.ArgumentParser(description=__doc__, formatter_class=argparse.RawDescriptionHelpFormatter)
     parser.add_argument('application', help="the application's file or folder")
-    parser.add_argument('lines', nargs='?', help='the file of the lines; else they are read from standard input')
-    parser.add_argument('--db', metavar='FILE', help='the file of the store that `jac why` was asked about')
+    parser.add_argument('lines', nargs='?', help='the file with the lines (default: standard input)')
+    parser.add_argument('--db', metavar='FILE', help='the store that `jac why` has read')
     return parser.parse_args(words)
 
 
