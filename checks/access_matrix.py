@@ -1,7 +1,7 @@
 #!/usr/bin/env python3
-"""Compares the page that tools/access_matrix.py writes of a store with what was written down here by hand: who is shown
-what, the reasons, that a store that is served is left alone, that nothing on the page is markup of the store, and that
-it has no value of what is guarded. Words: the program. Prints each that is wrong, and ends with a count."""
+"""Compares the page that tools/access_matrix.py writes about a store with expectations written by hand: who is shown
+what, and the reasons. Also checks that a store being served is left alone, that no markup from the store gets onto the
+page, and that the page has no guarded value. Argument: the program. Prints each failure, then a count."""
 import html
 import os
 import re
@@ -31,7 +31,7 @@ ask - POST "/join" "name=Bob&phone=555-2"
 ask 4096 POST "/note" "head=walrus&words=secret"
 ask 8192 POST "/note" "head=zebra&words=%3Copen%3E"
 '''
-# by viewer, and for each label whether it is shown
+# the rows (labels), and for each viewer which of them are shown (✓)
 ROWS = ['User 4096 “<b>Ann”: phone', 'User 8192 “Bob”: phone', 'Note 12289: words', 'Note 12289: the record',
         'Note 16385: words', 'Note 16385: the record']
 SHOWN = {'ann': '✓-✓✓✓✓', 'bob': '-✓-✓✓✓', 'nobody': '-----' + '-'}
@@ -44,7 +44,7 @@ def page(folder, *words, store='store.db'):
 
 
 def cells(text):
-    """The names of the rows, and for each column what its cells say, a hidden one as a line."""
+    """Returns the names of the rows, and for each column its cells as a string: ✓ for shown, - for hidden."""
     rows = re.findall(r'<tr data-name="([^"]*)">.*?</th>(.*?)</tr>', text)
     heads = re.findall(r'<th scope="col" title="[^"]*"><span>([^<]*)</span>', text)
     marks = [['-' if kind == 'h' else '✓' for kind in re.findall(r'<td class="([sh])">', row)] for _, row in rows]

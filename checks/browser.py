@@ -1,12 +1,15 @@
 #!/usr/bin/env python3
-"""Walks through the four applications of examples/ with a headless Chromium: the start page, forms that add and
-change, lists, the page of one record, what another viewer gets there, and a page that isn't there. Then two Chromiums
-click through the calendar in turn, each as somebody else, 50 clicks a walk. No page may take longer than 0.3 seconds.
-Another program may take the machine, so after each click a third Chromium loads the same page from a server of Python's
-own, and twice what that took doesn't count. A page that is late is looked at in a further walk, ten at most, and has to
-come in time in one of them. Where a page took 5 seconds, which is what waiting for the other browser took, the second
-such walk fails. Words: the program, and a folder for pictures of the pages, if they are wanted. Prints each case that
-fails, and ends with a count. Where Chromium isn't installed nothing is done, and that is said (installed.py)."""
+"""Uses the four applications of examples/ in a headless Chromium: the start page, forms that add and change records,
+lists, the page of one record, what another viewer gets there, and a page that doesn't exist. Then two Chromiums, each
+as another person, click through the calendar in turn, 50 clicks in each walk. No page may take longer than 0.3 seconds.
+
+Other programs may slow the machine down. So after each click a third Chromium loads the same page from a plain Python
+server, and twice that time is subtracted. If a page is late, the walk is repeated, up to ten walks in all. Each page
+has to be in time in at least one walk. A page that takes 5 seconds or more may have waited for the other browser. The
+second walk with such a page fails.
+
+Arguments: the program, and optionally a folder for pictures of the pages. Prints each failed case, then a count. If
+Chromium isn't installed, the check is skipped and says so (installed.py)."""
 import base64
 import contextlib
 import functools
@@ -30,14 +33,14 @@ TOP = os.path.dirname(os.path.dirname(os.path.abspath(__file__)))
 PROGRAM = PICTURES = None
 NAMES = 'chromium', 'chromium-browser', 'google-chrome'
 WAIT = 60
-BROWSERS = 4        # that a walk is given, one after another, where one can't take a step
+BROWSERS = 4        # most browsers started for one walk; a new one is started if the last one failed
 CLICKS, MOST, WALKS, NEVER = 50, 0.3, 10, 5
-STUCK = 2           # walks in which a page takes so long
-SHARE = 2           # times what the plain page took
+STUCK = 2           # walks with a page of NEVER seconds or more, after which the check fails
+SHARE = 2           # how many times the plain page's time is subtracted
 LAST = 300          # seconds after which no further walk begins
 PHONE, DESKTOP = 390, 1280
 
-# Fills the form whose action ends so, and sends it as its button does.
+# Fills in and submits the form whose action ends with `end`.
 SEND = '''((end, fields) => {
   const form = document.querySelector(`form[action$="${end}"]`);
   for (const [name, value] of Object.entries(fields)) {
@@ -50,7 +53,7 @@ SEND = '''((end, fields) => {
   }
   form.requestSubmit();
 })(%s, %s)'''
-# Presses the button with this text in the form whose action ends so.
+# Presses the button with this text in the form whose action ends with `end`.
 PRESS = '''((end, text) => Array.from(document.querySelectorAll(`form[action$="${end}"] button`))
   .find((button) => button.textContent === text).click())(%s, %s)'''
 FOLLOW = 'Array.from(document.links).find((link) => link.text === %s).click()'
@@ -63,7 +66,7 @@ class Broken(Exception):
 
 
 class Browser:
-    """A Chromium that is spoken to in JSON over two pipes, each message ended by a NUL."""
+    """A Chromium that is controlled through two pipes, by JSON messages that each end with a NUL."""
 
     def __init__(self, program, folder, *further):
         asked, self.asks = os.pipe()
@@ -103,7 +106,7 @@ class Browser:
             self.waiting.append(answer)
 
     def event(self, session, *methods):
-        """The next event of one of these kinds on the page of this session."""
+        """Returns the next event of one of these kinds on the page of this session."""
         while True:
             event = self.waiting.pop(0) if self.waiting else self.receive()
             if event.get('method') in methods and event.get('sessionId') == session:
@@ -119,7 +122,7 @@ class Browser:
 
 
 class Page:
-    """A page of the browser, at a served application."""
+    """A page of the browser that shows a served application."""
 
     def __init__(self, browser, run, name):
         self.browser, self.server, self.name, self.shots, self.seconds = browser, run, name, 0, 0
@@ -138,7 +141,7 @@ class Page:
         return result['result'].get('value')
 
     def loaded(self, act, *words, **params):
-        """What a step leads to: the status and the text of the page, once it is there."""
+        """Takes a step and waits until the new page is loaded. Returns the page's status and text."""
         self.browser.waiting.clear()
         began = time.monotonic()
         act(*words, **params)
@@ -185,7 +188,7 @@ class Page:
 
 
 def shows(name, page, *texts, but=(), status=200):
-    """The page has this status, shows these texts and none of those."""
+    """Checks that the page has this status, shows `texts`, and shows none of `but`."""
     if page[0] != status:
         return '%s: status %d, not %d' % (name, page[0], status)
     for text in texts:
@@ -301,8 +304,8 @@ def courses(page):
 
 
 def walk(program, folder, name, steps, serve, *further):
-    """What each step of a walk lacks, if anything. Where the browser can't take a step, the walk begins anew in another
-    one, at what `serve` then serves."""
+    """Returns what is wrong after each step of a walk. If the browser fails at a step, the walk begins again in a new
+    browser and with a new server from `serve`."""
     for place in range(BROWSERS):
         results, own = [], os.path.join(folder, '%s-%d' % (name, place))
         with serve() as server, contextlib.closing(Browser(program, own, *further)) as browser:
@@ -317,12 +320,12 @@ def walk(program, folder, name, steps, serve, *further):
 
 
 def example(name):
-    """An application of examples/, served."""
+    """Serves an application of examples/."""
     return served(PROGRAM, 'app', 1000, os.path.join(TOP, 'examples', name), ('--sessions', 'sessions'))
 
 
 def clicks(page, name):
-    """A person's clicks, over and over: the lists of events and people, and every fourth time an event of their own."""
+    """Makes one person's clicks without end: the lists of events and of people, and every fourth time a new event."""
     for step in itertools.count():
         if step % 4 == 3:
             got = page.send('/events', title='%s %d' % (name, step), day='2026-12-01', place='Room 2')
@@ -335,11 +338,11 @@ def clicks(page, name):
 
 class Quiet(http.server.ThreadingHTTPServer):
     def handle_error(self, request, client_address):
-        """A browser that closes a connection which it opened ahead is no error."""
+        """Ignores errors: a browser may open a connection ahead and close it unused."""
 
 
 class Plain:
-    """A server of Python's own that has one page: what it takes to load says how late the machine is."""
+    """A plain Python server with one page. The time to load this page shows how slow the machine is at the moment."""
 
     def __init__(self, page):
         class Handler(http.server.BaseHTTPRequestHandler):
@@ -365,7 +368,8 @@ class Plain:
 
 
 def two_people(program, run, plain, folder):
-    """What two browsers that click in turn lack, and for each click the seconds of the page, and of the plain one."""
+    """Lets two browsers click in turn. Returns what is wrong, and for each click the seconds of the page and of the
+    plain page."""
     results, times = [], []
     with contextlib.ExitStack() as stack:
         def opened(name, server):
@@ -376,7 +380,7 @@ def two_people(program, run, plain, folder):
         for page in people:
             page.be(page.name.lower())
         for page in [*people, other]:
-            page.go('/')    # a browser's first page is its start, and no click
+            page.go('/')    # this first page also starts the browser, so it doesn't count as a click
         steps = [clicks(page, page.name) for page in people]
         for click in range(CLICKS):
             results.append(next(steps[click % 2]))
@@ -386,7 +390,7 @@ def two_people(program, run, plain, folder):
 
 
 def first_page(run):
-    """The page of a calendar that is set up."""
+    """Sets up a calendar, and returns its first page."""
     with run.connect() as line:
         line.sendall(b'POST /setup HTTP/1.0\r\n\r\n')
         line.recv(1)
@@ -395,7 +399,8 @@ def first_page(run):
 
 
 def walk_in_turn(program, folder):
-    """What a walk of two browsers lacks, and the seconds of each click; none, where a browser can't take one."""
+    """Runs one walk of two browsers. Returns what is wrong and the seconds of each click, or two empty lists if a
+    browser failed."""
     with served(PROGRAM, 'app', 10000, os.path.join(TOP, 'examples', 'calendar'), ('--sessions', 'sessions')) as run:
         try:
             with contextlib.closing(Plain(first_page(run))) as plain:
@@ -406,7 +411,8 @@ def walk_in_turn(program, folder):
 
 
 def in_turn(program, folder):
-    """Whether each page came in time in one of the walks, and none as late as when one browser waited for the other."""
+    """Checks that each page came in time in at least one walk, and that fewer than STUCK walks had a page of NEVER
+    seconds."""
     results, shortest, stuck, began = [], [NEVER] * CLICKS, 0, time.monotonic()
     for place in range(WALKS):
         time.sleep(place)
@@ -434,7 +440,7 @@ def main():
     PICTURES = os.path.abspath(words.pictures) if words.pictures else None
     installed.need(NAMES)
     found, results = installed.find(*NAMES), []
-    # what the browser still writes as it ends may be left behind
+    # a browser that ends may still write files, so leftover files are ignored
     with tempfile.TemporaryDirectory(ignore_cleanup_errors=True) as folder:
         for steps in (calendar, conference, health, courses):
             name = steps.__name__

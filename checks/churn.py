@@ -1,9 +1,9 @@
 #!/usr/bin/env python3
-"""Has the built program make and remove records for long: fifty events are created, listed for three viewers and deleted,
-again and again. The policy of an event reads a guarded field of its host, so what is remembered of its label hangs on
-another label. Then the same while nobody asks for a list any more. After a tenth of each the program's memory has to stay
-as it is. Words: the program, and the number of creates and deletes, or none for 100,000. Prints each case that fails, and
-ends with a count."""
+"""Lets the built program create and delete records for a long time. In each round fifty events are created, listed for
+three viewers, and deleted. The policy of an event reads a guarded field of its host, so the cached answer for the
+event's label depends on another label. A second part does the same without the lists. After the first tenth of each
+part, the program's memory must not grow by more than 256 KiB. Arguments: the program, and the number of creates and
+deletes (100,000 by default). Prints each failed case, then a count."""
 import os
 import sys
 import tempfile
@@ -14,7 +14,7 @@ from support.serving import served
 WORDS = proved.words(requests={'metavar': 'NUMBER', 'nargs': '?', 'type': int, 'default': 100000,
                                'help': 'how many creates and deletes (%(default)s)'})
 PROGRAM = proved.program(WORDS.program)
-ROUND = 100             # creates and deletes of a round
+ROUND = 100             # creates and deletes in one round
 MOST = 1 << 18          # bytes by which memory may grow
 APPLICATION = r"""(app (viewer Person)
 
@@ -37,8 +37,8 @@ APPLICATION = r"""(app (viewer Person)
  (view get "/" (params)
   (for (from ((e Event)) true key) (put (get Event title e)) (put ";"))))
 """
-ANN, BOB = 4096, 8192   # the records of the first two requests that store
-HIDDEN = b'private;'     # what an event is to those who don't host it
+ANN, BOB = 4096, 8192   # the records that the first two POSTs create
+HIDDEN = b'private;'     # what viewers see of an event that they don't host
 SESSIONS = 'ann %d\nbob %d\n' % (ANN, BOB)
 
 
@@ -55,13 +55,13 @@ LISTS = [get(b'ann'), get(b'bob'), get(b'')]
 
 
 class Client:
-    """A connection that is made anew when the program has closed it."""
+    """A client that opens a new connection for each list of requests."""
 
     def __init__(self, run):
         self.run, self.line = run, None
 
     def ask(self, requests):
-        """The bodies of the replies, each of which has to be 200."""
+        """Returns the bodies of the replies. Exits if a reply isn't 200."""
         if self.line:
             self.line.close()
         self.line = self.run.connect()
@@ -82,14 +82,14 @@ class Client:
 
 
 def memory(process):
-    """The bytes of memory that the process holds."""
+    """Returns the bytes of memory that the process holds."""
     with open('/proc/%d/status' % process, encoding='ascii') as status:
         return next(int(line.split()[1]) * 1024 for line in status if line.startswith('VmRSS'))
 
 
 def churn(client, first, requests, lists):
-    """Rounds of creates, lists and deletes, of which the first create is stored as this number. Counts those that are
-    answered otherwise than they have to be."""
+    """Runs rounds of creates, lists and deletes. The first create is the request with the number `first`. Returns how
+    many lists of requests got wrong replies."""
     wrong, half = 0, ROUND // 2
     for number in range(first, first + requests, ROUND):
         events = [b'%d' % (at * 4096 + 1) for at in range(number, number + half)]
@@ -101,7 +101,7 @@ def churn(client, first, requests, lists):
 
 
 def grown(run, client, first, requests, lists):
-    """How many rounds were answered otherwise, and the bytes that memory grew by after a tenth of them."""
+    """Returns how many lists of requests got wrong replies, and by how many bytes memory grew after the first tenth."""
     begun = requests // 10 // ROUND * ROUND
     wrong = churn(client, first, begun, lists)
     before = memory(run.run.pid)
@@ -126,9 +126,9 @@ def main():
                 wrong, more = grown(run, client, first, requests, lists)
                 print('%s: memory grew by %d bytes over the last nine tenths of %d requests' % (name, more, requests))
                 if wrong:
-                    print('FAILED %s: %d times other replies came' % (name, wrong))
+                    print('FAILED %s: %d lists of requests got wrong replies' % (name, wrong))
                 if more > MOST:
-                    print('FAILED %s: at most %d bytes may be added' % (name, MOST))
+                    print('FAILED %s: memory may grow by at most %d bytes' % (name, MOST))
                 failed += bool(wrong) + (more > MOST)
     print('%d passed, %d failed' % (4 - failed, failed))
     sys.exit(1 if failed else 0)

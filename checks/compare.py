@@ -1,11 +1,15 @@
 #!/usr/bin/env python3
-"""Compares the built program with the second interpreter of checks/reference_interpreter.py, over random applications and random events.
-Words: the program, how many applications or, with an `s` behind it, for how many seconds, and the first one's seed, where it
-isn't to be the time. Of each request: the status, the
-location and the body are those of the ordinary interpreter in the world that the audited labels show, and these labels are
-settled for who asks. At the end: the tables of the store, under some sets of labels, are those of the worlds. Every third
-application is run over a file, and in two runs; then it is asked why labels are hidden, each of which has the reason that
-the worlds give, and the file is brought to a random extension of the application, dumped, and served on."""
+"""Compares the built program with the second interpreter of checks/reference_interpreter.py, on random applications and
+random requests.
+
+For each request, the status, the location and the body must be those of the ordinary interpreter in the world that the
+audited labels show. These labels must be settled for the viewer. At the end, for some sets of labels, the tables of the
+store must be those of the worlds. About a third of the applications are run over a file, and in two runs. Then the
+program is asked why labels are hidden, and each hidden label must have the reason that the worlds give. The file is
+upgraded to a random extension of the application, dumped, and used for further requests.
+
+Arguments: the program, a number of applications or a time such as `600s`, and the seed of the first application (by
+default the time). Prints each failure, then a count."""
 import copy
 import os
 import random
@@ -32,7 +36,8 @@ def written(tree):
 
 
 class Scope:
-    """What an expression may name: names with their kinds, and whether there are a viewer, a record and queries."""
+    """What an expression may use: names with their kinds, and whether there are a viewer, a record, queries and
+    tables."""
 
     def __init__(self, names, viewer=None, this=None, queries=True, tables=True):
         self.names, self.viewer, self.this, self.queries, self.tables = names, viewer, this, queries, tables
@@ -42,7 +47,7 @@ class Scope:
 
 
 class Maker:
-    """Applications that are well, and events for them."""
+    """Makes random well-formed applications, and requests to them."""
 
     def __init__(self, seed):
         self.random = random.Random(seed)
@@ -170,7 +175,7 @@ class Maker:
         return ['from', [[name, model] for name, model in binders], condition, order], bound
 
     def sought(self, binders, scope, inner, depth):
-        """A condition that seeks records by a value, maybe beside another one."""
+        """Returns a condition that looks records up by a value, sometimes combined with another condition."""
         name, model = self.pick(binders)
         field, kind = self.pick(self.by_name(model)['fields'])
         sides = [['get', model, field, name], self.expression(kind, self.pick((scope, inner)), min(depth, 1))]
@@ -219,7 +224,7 @@ class Maker:
         return tree + groups
 
     def guarding(self, model, free, most):
-        """A group that guards one or two of these fields, which then are no longer free."""
+        """Returns a group that guards one or two of these fields, and removes those fields from `free`."""
         guards = [free.pop(self.random.randrange(len(free)))]
         if len(free) and most > 1 and self.chance(0.3):
             guards.append(free.pop())
@@ -231,11 +236,11 @@ class Maker:
     def public(self, model, kind):
         return self.expression(kind, Scope([], None, model['name'], queries=False, tables=False), 2)
 
-    # a next version of an application
+    # the next version of an application
 
     def extension(self, tree):
-        """An application that extends this one: fields, groups and models are added, and some policies, public values and
-        all views are others."""
+        """Returns an application that extends this one. Fields, groups and models are added. Some policies, some public
+        values and all views are replaced."""
         parts = copy.deepcopy([part for part in tree[1:] if part[0] != 'view'])
         trees = [part for part in parts if part[0] == 'model']
         for model in self.models:
@@ -397,13 +402,13 @@ class Case:
         self.store, self.most, self.asked = Store(self.app), MOST_LABELS, 0
 
     def begin(self, name, text):
-        """The application of this name is the one that is run from now on."""
+        """Makes this the application of all further runs."""
         self.name, self.text = name, text
         self.app = App(text)
         self.lines, self.expected = [], []
 
     def find(self, method, path):
-        """The view of a path, with its parts; fixed ones go before names."""
+        """Returns, for each method, the first view that the path matches, with the values of its path parameters."""
         parts = [urllib.parse.unquote_to_bytes(part) for part in path.split('/')]
         found = {}
         for view in self.app.views:
@@ -423,7 +428,7 @@ class Case:
                 for name, kind in view.params]
 
     def ask(self):
-        """One more request, unless it would make more labels than are looked at."""
+        """Adds one more request, unless it would make too many labels to compare."""
         method, path, query, body = self.maker.request(self.store.keys())
         number = self.maker.pick((None, 4096, 8192, 12288, 12289, 16384))
         viewer = self.app.viewer_of(number)
@@ -451,7 +456,7 @@ class Case:
         self.lines.append('ask %s %s "%s" "%s"\n' % ('-' if number is None else number, method, target, body))
 
     def seen(self):
-        """The store as it is now."""
+        """Returns the store as it is now."""
         now = Store(self.app)
         now.labels, now.worlds = self.store.labels, self.store.worlds
         return now
@@ -471,13 +476,13 @@ class Case:
             file.write(data)
 
     def runs(self, *words):
-        """The status and the output of a run."""
+        """Runs the program. Returns the exit status and the output."""
         done = subprocess.run([self.program, *words], cwd=self.folder, stdin=subprocess.DEVNULL, stdout=subprocess.PIPE,
                               stderr=subprocess.DEVNULL)
         return done.returncode, done.stdout
 
     def replays(self, cut, stored):
-        """Runs the requests, in two runs that are cut here, and compares."""
+        """Replays the requests in two runs, split at `cut`, and compares the results."""
         self.write(self.name, self.text)
         replies, audits = [], []
         for part, lines in enumerate((self.lines[:cut], self.lines[cut:])):
@@ -536,7 +541,7 @@ class Case:
         return None
 
     def whys(self):
-        """What two viewers aren't shown, and why."""
+        """Compares what two viewers aren't shown, and the reasons."""
         for number in None, self.maker.pick((4096, 8192, 12289)):
             status, out = self.runs('why', self.name, '-' if number is None else str(number), '--db', 'store')
             lines = out.decode('latin-1').split('\n')[:-1]
@@ -557,7 +562,7 @@ class Case:
         return '%d %s %d %d' % (label, self.app.models[key % 64].name, key, group)
 
     def upgrades(self):
-        """The store is brought to a next application, which goes on with it."""
+        """Upgrades the store to the next version of the application, and continues with that version."""
         text = written(self.maker.extension(self.tree)).encode()
         store = self.store.upgraded(App(text))
         if len(store.labels) > MOST_LABELS + 2:
@@ -586,10 +591,10 @@ def dumped(cell):
 
 
 def read_words():
-    """The program, how many applications or else for how many seconds, and the first one's seed."""
-    words = proved.words(number={'metavar': 'NUMBER', 'help': 'how many applications, or as 600s for how many seconds'},
+    """Returns the program, the number of applications or None, the number of seconds or None, and the first seed."""
+    words = proved.words(number={'metavar': 'NUMBER', 'help': 'the number of applications, or a time such as 600s'},
                          seed={'metavar': 'SEED', 'nargs': '?', 'type': int, 'default': int(time.time()) * 1000,
-                               'help': 'the seed of the first one, instead of the time'})
+                               'help': 'the seed of the first application, instead of the time'})
     word = words.number
     most, seconds = (None, float(word[:-1])) if word.endswith('s') else (int(word), None)
     return proved.program(words.program), most, seconds, words.seed

@@ -1,14 +1,16 @@
 #!/usr/bin/env python3
-"""Compares the built program with one that keeps nothing from request to request, over random applications and random
-requests of several viewers in turn: each reply, each line of the audit, and the dump at the end are the same. Words: the
-program, for how many seconds, as `600s`, or how many applications, and the first one's seed, where it isn't to be the
-time. The other program is a trial of these sources in which labels are kept for no viewer; it is built in a folder of its
-own, which takes some minutes, or named by JAC_FORGETFUL. It is no part of the gate. A second interpreter says what is
-right (compare.py); this looks at longer runs, with more labels than that one can look at.
+"""Compares the built program with one that caches nothing between requests, on random applications and random requests
+of several viewers in turn. Each reply, each line of the audit, and the dump at the end must be the same. This check
+isn't part of the gate.
 
-Every other application is that of `linked.app`, whose policies link few labels each, by their own record and by what its
-fields refer to, so that behind a change a part of the labels is tried again; those of the random ones mostly go through
-whole tables."""
+Arguments: the program, a time such as `600s` or a number of applications, and the seed of the first application (by
+default the time). The other program is a trial of these sources that caches labels for no viewer. It is built in a
+temporary directory, which takes some minutes, unless JAC_FORGETFUL names it. What is right is checked by the second
+interpreter (compare.py). This check makes longer runs, with more labels than that interpreter can handle.
+
+Every other application is `linked.app`. Each of its policies links few labels: those of its own record and of the
+records that its fields refer to. So after a change only some of the labels are computed again. The policies of the
+random applications mostly read whole tables."""
 import os
 import random
 import re
@@ -22,13 +24,14 @@ from compare import Maker, read_words, written
 
 TOP = os.path.dirname(os.path.dirname(os.path.abspath(__file__)))
 KEPT = 'crates/jac_viewer_caches/src/viewer_caches.rt', r'(const VIEWERS: usize = )\d+;', r'\g<1>0;'
-MOST_NUMBERS = 12       # of the requests whose records are named
-MOST_SECONDS = 20       # of one run
+MOST_NUMBERS = 12       # requests name records that were made by requests with smaller numbers than this
+MOST_SECONDS = 20       # for one run
 VIEWERS = None, 4096, 8192, 12288, 12289, 16384
 
 
 def forgetful(folder):
-    """The program of these sources that keeps nothing."""
+    """Returns the path of the program that caches nothing. Builds it from these sources unless JAC_FORGETFUL names
+    it."""
     given = os.environ.get('JAC_FORGETFUL')
     if given:
         return os.path.abspath(given)
@@ -38,17 +41,18 @@ def forgetful(folder):
     with open(os.path.join(copy, path), encoding='utf-8') as file:
         text, count = re.subn(old, new, file.read())
     if count != 1:
-        sys.exit('%s has no line that says for how many viewers labels are kept' % path)
+        sys.exit('%s has no line that says for how many viewers labels are cached' % path)
     with open(os.path.join(copy, path), 'w', encoding='utf-8') as file:
         file.write(text)
     done = subprocess.run([sys.executable, os.path.join(copy, 'tools', 'trial.py'), '--print'], stdout=subprocess.PIPE)
     if done.returncode:
-        sys.exit('the program that keeps nothing could not be built')
+        sys.exit('the program that caches nothing could not be built')
     return done.stdout.decode().strip()
 
 
 def ran(words, folder):
-    """A run that ended, or None where it took too long: some applications answer one request for minutes."""
+    """Runs a program to its end, or returns None if it took too long. Some applications need minutes for one
+    request."""
     try:
         return subprocess.run(words, cwd=folder, stdin=subprocess.DEVNULL, stdout=subprocess.PIPE, stderr=subprocess.DEVNULL,
                               timeout=MOST_SECONDS)
@@ -57,7 +61,7 @@ def ran(words, folder):
 
 
 class Case:
-    """An application, and requests to it that name records which may be there."""
+    """An application, and requests to it that name records which may exist."""
 
     def __init__(self, seed):
         self.maker = Maker(seed)
@@ -82,7 +86,8 @@ class Case:
             file.write(''.join(self.lines))
 
     def told_by(self, program, folder):
-        """The status, the replies, the audit, and what the store holds then, if there is one."""
+        """Returns the status, the replies, the audit, and the dump of the store if there is one. Returns None if the
+        run took too long."""
         for name in ('audit', 'store'):
             if os.path.exists(os.path.join(folder, name)):
                 os.remove(os.path.join(folder, name))
@@ -99,7 +104,7 @@ class Case:
 
 
 class Linked(Case):
-    """The application whose policies link few labels, and many requests to it."""
+    """The application whose policies link few labels, with many requests to it."""
     OTHERS = {'review': 'paper', 'vote': 'review'}
     SECOND = {'paper': 'title'}
 
@@ -148,17 +153,17 @@ class Linked(Case):
 
 
 def difference(have, want):
-    """Where two runs differ, or None."""
+    """Returns the first difference between two runs, or None."""
     if have == want:
         return None
     if have[0] != want[0]:
-        return 'status %d, and %d of the one that keeps nothing' % (have[0], want[0])
+        return 'status %d, and %d of the program that caches nothing' % (have[0], want[0])
     for what, one, other in zip(('reply', 'line of the audit', 'line of the dump'), have[1:], want[1:]):
         for place, pair in enumerate(zip(one, other)):
             if pair[0] != pair[1]:
-                return '%s %d: %r, and %r of the one that keeps nothing' % (what, place + 1, *pair)
+                return '%s %d: %r, and %r of the program that caches nothing' % (what, place + 1, *pair)
         if len(one) != len(other):
-            return '%d of what is a %s, and %d of the one that keeps nothing' % (len(one), what, len(other))
+            return '%d of kind %s, and %d of the program that caches nothing' % (len(one), what, len(other))
 
 
 def main():

@@ -1,6 +1,6 @@
-"""Evaluates closed terms of specs/: the part of the logic that definitions by cases are written in, with numbers, lists,
-records and functions, and the words of std that they name. No proof rests on it; `mutate_definitions.py` asks it what examples come to
-when a definition is turned."""
+"""Evaluates closed terms of specs/. It handles the part of the logic that definitions by cases are written in, with
+numbers, lists, records and functions, and the names of std that they use. No proof depends on it.
+`mutate_definitions.py` uses it to compute the values of the examples after a definition was mutated."""
 import os
 import re
 import sys
@@ -15,11 +15,11 @@ RIGHT = {'∷', '++', '→', '×', '⊎', '^', '&&', '||'}
 
 
 class Fault(Exception):
-    """A term that doesn't come to a value: it has no meaning as it is written."""
+    """A term that has no value: as it is written, it has no meaning."""
 
 
 class Made(tuple):
-    """A constructor with its arguments."""
+    """A constructor applied to its arguments."""
     __slots__ = ()
 
     def __new__(cls, name, *args):
@@ -41,7 +41,7 @@ def some(x):
 # --- terms ---------------------------------------------------------------------------------------------------------------
 
 class Reader:
-    """Reads a term from its tokens; a term is a tuple whose first part says what it is."""
+    """Reads a term from its tokens. A term is a tuple, and its first item says what kind of term it is."""
 
     def __init__(self, text):
         self.tokens, self.at = TOKEN.findall(text), 0
@@ -189,7 +189,8 @@ def read_term(text):
 # --- files ---------------------------------------------------------------------------------------------------------------
 
 class File:
-    """The definitions of a file, by name: their clauses, as patterns and a term; and where its other names come from."""
+    """The definitions of a file by name, each with its clauses (patterns and a term), and the modules that other names
+    come from."""
 
     def __init__(self, world, text):
         self.world, self.names, self.modules, self.clauses, self.read, self.ready = world, {}, {}, {}, {}, {}
@@ -211,7 +212,7 @@ class File:
             self.modules[other.strip() or path.split('.')[-1]] = path
 
     def of(self, name):
-        """What a name of this file means: its own definition, or one that it brings in."""
+        """Returns what a name in this file means: its own definition, or an imported one."""
         if name in self.clauses:
             if name not in self.read:
                 self.read[name] = [(tuple(map(read_term, parts(left))), read_term(right)) for left, right in self.clauses[name]]
@@ -236,7 +237,7 @@ class File:
 
 
 def definitions(text):
-    """The clauses of a file, each as its name, its left side and its right side."""
+    """Returns the clauses of a file, each as its name, its left side and its right side."""
     lines, found = text.split('\n'), []
     place = 0
     while place < len(lines):
@@ -257,7 +258,7 @@ def definitions(text):
 
 
 def parts(left):
-    """The patterns of a left side."""
+    """Returns the patterns of a left side."""
     out, depth, start = [], 0, None
     for place, mark in enumerate(left + ' '):
         if mark in '([{':
@@ -306,7 +307,7 @@ def matches(pattern, value, env, file):
 
 
 def curried(size, body):
-    """A function of so many arguments, given one after another."""
+    """Returns a function of `size` arguments that are passed one at a time."""
     if size == 0:
         return body(())
 
@@ -336,7 +337,7 @@ def constructor(name):
 
 
 class Maker(Made):
-    """A constructor, which takes what arguments it is given."""
+    """A constructor that takes any number of arguments, one at a time."""
     __slots__ = ()
 
     def __new__(cls, name, args):
@@ -445,7 +446,7 @@ def of(size, body):
 
 
 def rank(value):
-    """A key that orders values as their derived comparison does."""
+    """Returns a key that orders values as their derived comparison does."""
     order = ('Int', 'Text', 'Bool', 'Ref')
     if not isinstance(value, Made) or value[0] not in order:
         raise Fault('no value')
@@ -523,7 +524,7 @@ INFIX = {
 # --- examples ------------------------------------------------------------------------------------------------------------
 
 class Logic:
-    """The files of specs/, one of which may have another text than it has."""
+    """The files of specs/. One of them may be given another text."""
 
     def __init__(self, crate):
         self.files, self.left, self.turned = {}, 0, None
@@ -535,7 +536,8 @@ class Logic:
             raise Fault('it takes too long')
 
     def file(self, path):
-        """The file of a module's path, as `Rattle.jac_plain.specs.World`; none where it is no file of the repository."""
+        """Returns the file of a module's path, such as `Rattle.jac_plain.specs.World`, or None if the repository has no
+        such file."""
         words = path.split('.')
         where = 'crates/%s/specs/%s.antt' % (words[1], '/'.join(words[3:])) if len(words) > 3 else ''
         if where not in self.files:
@@ -544,7 +546,8 @@ class Logic:
         return self.files[where]
 
     def examples_of(self, crate):
-        """The equations among the examples of a crate's clauses, each with its name, its file and its two sides."""
+        """Yields the equations among the examples in a crate's clauses, each with its name, its file and its two
+        sides."""
         folder = 'crates/%s/src' % crate
         for name in sorted(os.listdir(os.path.join(TOP, folder))):
             text = read('%s/%s' % (folder, name))
@@ -552,14 +555,15 @@ class Logic:
             for function, body in re.findall(r'(?s)pub fn (\w+)\(\)(.*?)\n\{\}', text):
                 for clause, term in re.findall(r'(?s)ensures (\w+) \{ (.*?) \}(?=\n    ensures|$)', body):
                     if '→' in term:
-                        continue        # of a statement, which the prover alone sees
+                        continue        # a statement, which only the prover can check
                     read_as = read_term(term)
                     if read_as[:2] == ('infix', '≡'):
                         yield '%s.%s' % (function, clause), file, read_as
 
     def fails(self, turned=None):
-        """The first example whose two sides come to different values where a file has this text, as its path and the text,
-        or that has no meaning then, with why; none where all hold."""
+        """Returns the first example that fails, or None. An example fails if its two sides have different values, or if
+        it has no meaning. In the latter case the reason is returned too. `turned` is a path, and a text that replaces
+        that file's text."""
         kept = dict(self.files)
         if turned:
             self.files[turned[0]] = File(self, turned[1])

@@ -1,11 +1,11 @@
 #!/usr/bin/env python3
-"""Serves the calendar through nginx with the files of deploy/: TLS, accounts and passwords, cookies that are forged,
-forms of other sites, pages of the site in place of errors, several applications, an audit that is rotated, backups, a
-standby, a port that is handed over, 20 restarts under requests, and what the journal is told of an end. Words: the program. Prints each case that fails,
-and ends with a count. What isn't installed is left out, and that is said.
+"""Serves the calendar through nginx with the files of deploy/. Covers TLS, accounts and passwords, forged cookies,
+forms of other sites, the site's own error pages, several applications, a rotated audit, backups, a standby, an
+inherited socket, 20 restarts during requests, and what the journal says after a service has ended. Argument: the
+program. Prints each failed case, then a count. What isn't installed is skipped, and the output says so.
 
-With --load it also serves 32 and 300 clients for some minutes, beside other work: no request may fail. Without it that
-is left out."""
+With --load it also serves 32 and 300 clients for some minutes while the machine does other work. No request may fail.
+Without --load this part is skipped."""
 import argparse
 import base64
 import concurrent.futures
@@ -42,7 +42,7 @@ http {
     include sites/*.conf;
 }
 '''
-# The second application of the machine: how its files are made of those of the calendar, and where it is.
+# The second application of the machine. Its files are made from those of the calendar (`as_documented`).
 BOARD = 'board'
 ACCOUNTS = 'ann 4096 active\nbob 4160 active\neve - active\n'
 EVENTS = 300
@@ -50,7 +50,7 @@ RESTARTS = 20
 
 
 def site_text(folder, tls, plain_port, port, static):
-    """nginx.conf for a folder of its own."""
+    """Returns nginx.conf, changed for a folder of its own."""
     changes = [('calendar.example.org', HOST_NAME), ('/etc/jac/calendar/', folder + '/'),
                ('root /srv/jac', 'root ' + static), ('127.0.0.1:8080', '127.0.0.1:%d' % port),
                ('listen 443', 'listen 127.0.0.1:%d' % tls), ('listen 80', 'listen 127.0.0.1:%d' % plain_port),
@@ -84,7 +84,7 @@ class Site(Client):
         return service(self.program, self.folder, self.port_of_jac, count, handed)
 
     def told(self):
-        """What nginx says is wrong with its files."""
+        """Returns what nginx says about its files."""
         done = subprocess.run([*self.words, '-t'], stdin=subprocess.DEVNULL, stdout=subprocess.PIPE,
                               stderr=subprocess.STDOUT, text=True)
         return done.stdout
@@ -110,7 +110,8 @@ def run_jac(site, *words):
 # Without a server.
 
 def units(program):
-    """The unit of one application is that of several, where the instance is the calendar; systemd takes them all."""
+    """Checks that the units of one application equal the template units, with the calendar as the instance, and that
+    systemd accepts all units."""
     for kind in ('service', 'socket'):
         one = [line for line in read(DEPLOY, 'jac.' + kind).splitlines() if not line.startswith('#')]
         text = read(DEPLOY, 'jac@.' + kind)
@@ -143,8 +144,8 @@ def units(program):
 
 
 def explanations(program):
-    """What the units run once a service ended: the words are those of its start, and the journal is told why, once a
-    minute."""
+    """Checks the command that the units run after a service has ended. It has the same arguments as the start. It
+    writes the reason to the journal, the same reason at most once a minute."""
     for unit in ('jac.service', 'jac@.service'):
         starts, ends = (re.findall(r'(?m)^%s=(.*)$' % name, read(DEPLOY, unit)) for name in ('ExecStart', 'ExecStopPost'))
         yield expect('the words of ' + unit, ends, ['-/usr/local/lib/jac/explain.py ' + line for line in starts])
@@ -168,7 +169,7 @@ def explanations(program):
 
 
 class Ended:
-    """explain.py as a machine has it, beside the tools, and run as the unit runs it."""
+    """explain.py installed next to the tools as on a real machine, and run as the unit runs it."""
 
     def __init__(self, folder, program):
         self.folder = folder
@@ -183,7 +184,7 @@ class Ended:
             ('/var/log/jac/calendar/', folder + '/')])
 
     def told(self, status, code='exited'):
-        """What is said in the journal after an end of this kind."""
+        """Returns what is written to the journal after an end of this kind."""
         done = subprocess.run([os.path.join(self.lib, 'explain.py'), *self.words], cwd=self.folder, text=True,
                               stdin=subprocess.DEVNULL, stdout=subprocess.PIPE, stderr=subprocess.STDOUT,
                               env={**os.environ, 'EXIT_CODE': code, 'EXIT_STATUS': status, 'RUNTIME_DIRECTORY': self.folder})
@@ -191,7 +192,7 @@ class Ended:
 
 
 def refusals(folder):
-    """What account.py refuses, and that this changes nothing."""
+    """Checks what account.py refuses, and that a refusal changes nothing."""
     def files():
         return {name: read(folder, name) for name in ('users', 'tokens', 'sessions')}
 
@@ -227,7 +228,7 @@ def refusals(folder):
 
 
 def accounts(program):
-    """account.py in a folder of its own."""
+    """Checks account.py in a folder of its own."""
     if not shutil.which('htpasswd'):
         yield Skipped('accounts: htpasswd is not installed')
         return
@@ -266,7 +267,7 @@ def accounts(program):
 
 
 def guarded_names(program):
-    """Names that a policy hides are found too: in the clinic a patient's name is."""
+    """Checks that names hidden by a policy are found too. In the clinic, a patient's name is hidden."""
     with tempfile.TemporaryDirectory() as folder:
         health = os.path.join(TOP, 'examples', 'health')
         settle(folder, program)
@@ -287,7 +288,8 @@ def guarded_names(program):
 # Through nginx.
 
 def strangers(site):
-    """Whoever has no account, or another's password; and whoever asks another host."""
+    """Checks that requests fail without an account, with a wrong password or for another host, and that requests
+    without TLS are redirected."""
     forged = ('Cookie', 'session=' + site.tokens['ann'])
     for name, headers in (('no password', []), ('a forged cookie', [forged]),
                           ('a wrong password', [*basic('ann', 'for bob'), forged])):
@@ -299,7 +301,7 @@ def strangers(site):
 
 
 def people(site):
-    """Two accounts, the same page with their own view of it, and one that is nobody."""
+    """Checks that two accounts each get their own view of the same page, and that a third account is nobody."""
     yield expect('it is set up', site.send('ann', '/setup')[0], 303)
     status, headers, _ = site.send('ann', '/events', title='Secret talk', place='Room 2', day='2026-12-01')
     yield expect('an event', (status, headers['Location'][:7]), (303, '/event/'))
@@ -318,7 +320,8 @@ def people(site):
 
 
 def headers_of(site):
-    """What private pages and the style sheet may be kept for, and as what; and what every page has."""
+    """Checks how long private pages and the style sheet may be cached, their content types, and the headers of every
+    page."""
     _, headers, _ = site.page('ann')
     have = headers.get_all('Cache-Control'), headers.get_all('Vary'), headers['Content-Type']
     yield expect('a private page', have, (['private, no-store'], ['Authorization'], 'text/html; charset=utf-8'))
@@ -337,7 +340,7 @@ def headers_of(site):
 
 
 def other_sites(site):
-    """Forms of other sites' pages are refused, though the browser sends the password along."""
+    """Checks that forms on other sites' pages are refused, although the browser sends the password with them."""
     own = site.own
     for further, want in (([('Sec-Fetch-Site', 'cross-site')], 403), ([('Sec-Fetch-Site', 'same-site')], 403),
                           ([('Origin', 'https://elsewhere.example')], 403), ([('Origin', 'null')], 403),
@@ -349,7 +352,8 @@ def other_sites(site):
 
 
 def changed_accounts(site):
-    """account.py beside a site that is served: each change holds at once, or once both have read their files again."""
+    """Runs account.py while the site is served. Each change takes effect at once, or as soon as both programs have read
+    their files again."""
     folder = site.folder
     yield expect('bob is disabled', account(folder, 'disable', 'bob'), (0, '', ''))
     yield expect('who is disabled', site.page('bob')[0], 401)
@@ -369,7 +373,7 @@ def changed_accounts(site):
 
 
 def error_pages(site, jac):
-    """Pages of the site in place of errors; a 404 is the program's. Afterwards jac has ended."""
+    """Checks the site's own error pages. A 404 comes from the program. Afterwards jac has ended."""
     answer = site.send('ann', '/people', name='x' * 70000)
     yield expect('a form too large', (answer[0], 'Too much at once' in answer[2]), (413, True))
     yield secured('a form too large', answer[1])
@@ -386,7 +390,8 @@ def error_pages(site, jac):
 
 
 def wrk(site, clients, seconds, timeout):
-    """What wrk says went wrong, and its count of requests. A reply that comes after so many seconds is wrong too."""
+    """Runs wrk. Returns the errors that it reports and its count of requests. A reply that takes longer than `timeout`
+    seconds is an error too."""
     words = ['wrk', '-t2', '-c%d' % clients, '-d%ds' % seconds, '--timeout', '%ds' % timeout,
              '-H', 'Authorization: ' + basic('ann')[0][1], site.own + '/']
     done = subprocess.run(words, stdin=subprocess.DEVNULL, stdout=subprocess.PIPE, text=True, timeout=seconds + 120)
@@ -398,7 +403,7 @@ def wrk(site, clients, seconds, timeout):
 
 
 def load(site):
-    """Many clients at once: no reply fails, and none is another's."""
+    """Sends requests of many clients at once. No reply may fail, and nobody may get another client's page."""
     if shutil.which('wrk'):
         wrong, count = wrk(site, 32, 10, 8)
         yield expect('32 connections of wrk', (wrong, count > 0), ([], True))
@@ -416,7 +421,7 @@ def load(site):
 
 @contextlib.contextmanager
 def writing(site):
-    """While this lasts Ann adds events; it gives a list with the count of those that were answered."""
+    """Adds events as Ann until the block ends. Yields a list whose only item counts the events that were answered."""
     answered, over = [0], threading.Event()
 
     def writer():
@@ -434,7 +439,8 @@ def writing(site):
 
 
 def events_in(site, store):
-    """How many of the events that `writing` adds this store has. It is copied first: the program takes it over."""
+    """Returns how many of the events that `writing` adds are in this store. Reads a copy, because the program would
+    take the store over."""
     with tempfile.TemporaryDirectory() as room:
         copy = os.path.join(room, 'store')
         for end in ('', '-wal'):
@@ -445,7 +451,7 @@ def events_in(site, store):
 
 
 def backups(site):
-    """Copies that are made while forms come in have all that was answered before, and are whole."""
+    """Checks that copies made while forms are sent are whole, and have everything that was answered before."""
     with writing(site) as answered:
         for place in range(3):
             time.sleep(0.5)
@@ -468,7 +474,7 @@ def stand_by(*words, path=None):
     return done.returncode, done.stdout, done.stderr
 
 
-# In place of ssh: it does what it is told on this machine, and notes for which host.
+# Replaces ssh: it runs the command on this machine, and records the host name.
 AS_SSH = '''#!/bin/sh
 while [ "$1" != -- ]; do shift; done
 echo "$2" >>%s
@@ -477,7 +483,8 @@ exec sh -c "$3"
 
 
 def standby(site, answered):
-    """Copies of a store that is served go to a folder, which is another machine's; a drill restores the newest."""
+    """Checks that copies of a store being served go to a folder, which stands for another machine. A drill restores the
+    newest copy."""
     store, away, ways = os.path.join(site.folder, 'store.db'), os.path.join(site.folder, 'it\'s away'), \
         os.path.join(site.folder, 'ways')
     app = os.path.join(site.folder, 'app')
@@ -514,7 +521,7 @@ def standby(site, answered):
 
 
 def restored(site):
-    """The other machine, with the newest copy, goes on; what it had before is put aside."""
+    """Checks that the other machine continues with the newest copy, and that its old store is kept aside."""
     away, store = os.path.join(site.folder, 'it\'s away'), os.path.join(site.folder, 'store.db')
     want = events_in(site, os.path.join(away, sorted(os.listdir(away))[-1]))
     have = events_in(site, store)
@@ -530,7 +537,7 @@ def restored(site):
 
 
 def as_documented(name):
-    """What the command of docs/DEPLOYING.md makes of this file for a second application."""
+    """Returns what the command of docs/DEPLOYING.md makes of this file for a second application."""
     page = read(TOP, 'docs', 'DEPLOYING.md')
     command = re.search(r"(?m)^    sed '(.*)' deploy/%s >" % re.escape(name), page)[1]
     done = subprocess.run(['sed', command, os.path.join(DEPLOY, name)], stdout=subprocess.PIPE, text=True, check=True)
@@ -538,7 +545,7 @@ def as_documented(name):
 
 
 def board_files(site, folder, host, port):
-    """The second application's files, as the page has them made; nginx has them too."""
+    """Makes the second application's files as the page says, and gives them to nginx."""
     os.makedirs(folder)
     settle(folder, site.program)
     account(folder, 'add', 'ann', '4096', password='for the board')
@@ -552,7 +559,7 @@ def board_files(site, folder, host, port):
 
 
 def two_applications(site):
-    """A second application on the machine has its own host, accounts, store and audit."""
+    """Checks that a second application on the machine has its own host, accounts, store and audit."""
     folder, port, host = os.path.join(site.folder, BOARD), free_port(), '%s.%s' % (BOARD, HOST_NAME)
     for line in ('application = /etc/jac/board/app', 'store = /var/lib/jac/board/store.db', 'jac group = jac-board',
                  'restart jac = systemctl try-restart jac@board.service', 'program = /usr/local/bin/jac'):
@@ -572,7 +579,7 @@ def two_applications(site):
 
 
 def both_served(site, folder, host):
-    """Each of the two, by its own name and accounts."""
+    """Checks that each of the two applications is reached by its own name and accounts."""
     board, own = '%s:%d' % (host, site.port), basic('ann', 'for the board')
     until(lambda: site.ask('GET', '/', own, host=board)[0] == 200)
     yield shows('the board', site.ask('GET', '/', own, host=board), ' - Papers</title>', but=['Secret talk'])
@@ -586,7 +593,7 @@ def both_served(site, folder, host):
 
 
 def audit_lines(folder):
-    """The lines of all files of the audit, oldest first."""
+    """Yields the lines of all files of the audit, oldest first."""
     names = sorted((name for name in os.listdir(folder) if re.fullmatch(r'audit(\.\d+(\.gz)?)?', name)),
                    key=lambda name: -int(re.sub(r'\D', '', name) or 0))
     for name in names:
@@ -595,7 +602,8 @@ def audit_lines(folder):
 
 
 def broken_off(lines):
-    """The first place where the numbers of a run don't go on by one, if there is one."""
+    """Returns the first line of the audit that is malformed or whose number doesn't follow the number before it, or
+    None."""
     last = 0
     for line in lines:
         if not re.fullmatch(r'\d+ \d{3} \S+ \S+\n', line):
@@ -608,7 +616,8 @@ def broken_off(lines):
 
 
 def rotated(site, handed=False):
-    """An audit whose file is rotated meanwhile: no line is lost. The service ends after each 60 connections."""
+    """Rotates the audit's file while pages are requested. No line may be lost. The service ends after every 60
+    connections."""
     if not shutil.which('logrotate'):
         yield Skipped('an audit that is rotated: logrotate is not installed')
         return
@@ -640,7 +649,8 @@ def rotated(site, handed=False):
 
 
 def started_again(site):
-    """A service that ends after its count of connections is started again, over what it kept."""
+    """Checks that a service which ends after its number of connections is started again with the data that it
+    stored."""
     jac = site.service(10)
     try:
         seen = 0
@@ -655,10 +665,10 @@ def started_again(site):
         jac.stop()
 
 
-# With a port that is handed over.
+# With an inherited socket.
 
 def takes_the_port(site):
-    """The program takes the port that is handed over, also where it has no network of its own."""
+    """Checks that the program uses an inherited socket, even if it has no network of its own."""
     jac = site.service(handed=True)
     try:
         yield expect('a port that is handed over', site.page('ann')[0], 200)
@@ -677,7 +687,7 @@ def takes_the_port(site):
 
 
 class Asking:
-    """Clients in a loop; each asks or sends, and notes what failed."""
+    """Clients in a loop. Each sends GETs or POSTs, and records those that failed."""
 
     def __init__(self, site):
         self.site, self.over, self.lock = site, threading.Event(), threading.Lock()
@@ -708,7 +718,7 @@ class Asking:
                 self.wrong_sent.append(status)
 
     def go_on(self, count):
-        """Waits until so many more were answered."""
+        """Waits until `count` more GETs have ended."""
         goal = self.asked + count
         until(lambda: self.asked >= goal, 60)
 
@@ -719,7 +729,8 @@ class Asking:
 
 
 def restarts(site):
-    """Restarts under load: no GET fails, at most one POST a restart, and each POST that was answered is stored."""
+    """Restarts the service under load. No GET may fail, and at most one POST for each restart. Each answered POST must
+    be stored."""
     before = events_in(site, os.path.join(site.folder, 'store.db'))
     jac = site.service(handed=True)
     clients = Asking(site)
@@ -745,7 +756,7 @@ def restarts(site):
 
 @contextlib.contextmanager
 def other_work():
-    """A process for each processor that does nothing but count."""
+    """Keeps each processor busy with a process that only counts."""
     runs = [subprocess.Popen([sys.executable, '-c', 'while True: pass']) for _ in range(os.cpu_count())]
     try:
         yield
@@ -756,7 +767,8 @@ def other_work():
 
 
 def heavy(site):
-    """32 clients for a minute, three times, and 300 on a page of 300 events, beside other work: no request fails."""
+    """Serves 32 clients for a minute, three times, and 300 clients on a page of 300 events, while the machine does
+    other work. No request may fail."""
     if not shutil.which('wrk'):
         yield Skipped('32 clients for a minute, and 300 at once: wrk is not installed')
         return
@@ -820,7 +832,7 @@ def through_nginx(program, load):
 def main():
     reader = argparse.ArgumentParser(description=__doc__.split('\n\n')[0])
     reader.add_argument('program', help='./jac, or a trial')
-    reader.add_argument('--load', action='store_true', help='also some minutes of 32 and of 300 clients')
+    reader.add_argument('--load', action='store_true', help='also serve 32 and 300 clients, for some minutes')
     words = reader.parse_args()
     program = proved.program(words.program)
     parts = (units(program), explanations(program), accounts(program), guarded_names(program),

@@ -1,8 +1,7 @@
 #!/usr/bin/env python3
-"""Writes an application under `tools/dev.py`, as an editor and a browser would: saves texts that are right and texts
-that aren't, adds fields, changes who asks, and looks at what the bar says of labels. Meanwhile somebody asks for pages
-over and over, and none of these requests may fail. Words: the program. Prints each case that fails, and ends with a
-count."""
+"""Writes an application under `tools/dev.py`, as an editor and a browser would. Saves correct and wrong texts, adds
+fields, changes the viewer, and reads what the bar says about labels. Meanwhile a client requests pages over and over,
+and none of these requests may fail. Argument: the program. Prints each failed case, then a count."""
 import contextlib
 import http.client
 import os
@@ -23,7 +22,7 @@ from support.serving import HOST, free_port, is_listening                   # no
 TOP = os.path.dirname(os.path.dirname(os.path.abspath(__file__)))
 PROGRAM = proved.binary(proved.first_word())
 DEV = os.path.join(TOP, 'tools', 'dev.py')
-WAIT = 120      # seconds; other programs may have the machine
+WAIT = 120      # seconds; the machine may be busy with other programs
 
 APP = '''(app (viewer User)
  (model User (fields (name text)))
@@ -49,7 +48,7 @@ class Broken(Exception):
 
 
 class Writer:
-    """A run of dev in a folder of its own, whose temporary files are in another one."""
+    """A run of dev in a folder of its own. Its temporary files are in another folder."""
 
     def __init__(self, folder, words=(), text=APP):
         self.folder, self.port = folder, free_port()
@@ -69,13 +68,13 @@ class Writer:
         return os.path.join(self.folder, name)
 
     def save(self, name, text):
-        """As an editor saves: a new file in the place of the old one."""
+        """Saves as an editor does: a new file replaces the old one."""
         with open(self.path(name + '~'), 'w', encoding='utf-8') as file:
             file.write(text)
         os.replace(self.path(name + '~'), self.path(name))
 
     def saved(self, text, name='app'):
-        """Saves a text, and waits until it was taken."""
+        """Saves a text, and waits until dev has taken it."""
         before = self.version()
         self.save(name, text)
         self.until('a save is taken', lambda: self.version() > before)
@@ -84,7 +83,7 @@ class Writer:
         deadline = time.monotonic() + WAIT
         while not test():
             if time.monotonic() > deadline or self.run.poll() is not None:
-                raise Broken('%s: not so, and dev says %s' % (what, self.told()[-500:]))
+                raise Broken('%s: this did not happen, and dev says %s' % (what, self.told()[-500:]))
             time.sleep(0.02)
 
     def told(self):
@@ -92,7 +91,7 @@ class Writer:
             return file.read()
 
     def ask(self, method, path, form=None, token=None, **headers):
-        """The status, the headers and the text of a reply."""
+        """Returns the status, the headers and the body of the reply."""
         line = http.client.HTTPConnection(HOST, self.port, timeout=WAIT)
         if token:
             headers['Cookie'] = 'first=1; session=%s; last=2' % token
@@ -112,12 +111,12 @@ class Writer:
         return int(re.search(r'\d+', self.page('/dev//state')).group())
 
     def labels(self, token, path='/'):
-        """What the bar of this page says of its labels."""
+        """Returns what the bar of this page says about the labels."""
         number = re.search(r'data-from="/dev//labels/(\d+)"', self.page(path, token)).group(1)
         return self.page('/dev//labels/' + number)
 
     def end(self, how=signal.SIGINT):
-        """The exit status, once it was told to end."""
+        """Ends the run, and returns its exit status."""
         if self.run.poll() is None:
             self.run.send_signal(how)
         return self.run.wait(WAIT)
@@ -134,7 +133,7 @@ def writer(words=(), text=APP):
 
 
 class Asker(threading.Thread):
-    """Asks for pages and posts notes until it is told to stop, and keeps what was answered otherwise."""
+    """Requests pages and posts notes until it is stopped, and records each unexpected reply."""
 
     def __init__(self, run):
         super().__init__()
@@ -182,7 +181,7 @@ def is_gone(number):
 
 
 def saves():
-    """Texts are saved one after another, and somebody asks meanwhile."""
+    """Saves texts one after another while a client sends requests."""
     with writer(('--db', 'store.db')) as run:
         for name in 'Ann', 'Bob':
             run.ask('POST', '/join', {'name': name})
@@ -222,7 +221,7 @@ def saves():
 
 
 def stores():
-    """A store of an earlier run, of other models."""
+    """Opens a store that an earlier run with other models has left."""
     with tempfile.TemporaryDirectory() as folder:
         run = Writer(folder, ('--db', 'store.db'))
         run.ask('POST', '/join', {'name': 'Ann'})
@@ -243,7 +242,7 @@ def stores():
 
 
 def viewers():
-    """Who asks, and what is shown to them."""
+    """Changes the viewer, and checks what each viewer is shown."""
     with writer() as run:
         for name in 'Ann', 'Bob':
             run.ask('POST', '/join', {'name': name})
@@ -269,7 +268,7 @@ def viewers():
 
 
 def pages():
-    """What the bar stands in, and what is the application's."""
+    """Checks which pages have the bar, and which paths belong to the application."""
     with writer() as run:
         mark = '<script>alert(1)</script>'
         page = run.ask('GET', '/?a=%s"\'' % mark)
@@ -295,7 +294,8 @@ def pages():
 
 
 def prefix():
-    """No view has a path below /dev//: the program refuses such a view, and finds none."""
+    """Checks that no view can have a path below /dev//. The program refuses such a view, and answers such a path with
+    404."""
     with tempfile.TemporaryDirectory() as folder:
         for name, text in (('app', APP), ('events', 'ask - GET "/dev//labels/1" ""\nask - GET "/dev//" ""\n'),
                            ('wrong', '(app (view get "/dev//labels" (params) (put "x")))')):
@@ -309,7 +309,8 @@ def prefix():
 
 
 def late():
-    """A connection on which the first byte comes late, as on a busy machine: the request is answered, and once."""
+    """Opens a connection whose first byte comes late, as on a busy machine. The request must be answered, and must take
+    effect only once."""
     sys.path.insert(0, os.path.dirname(DEV))
     import dev
     connect, calls = socket.create_connection, []
@@ -339,7 +340,7 @@ def late():
 
 
 def beginnings():
-    """A text that is wrong from the first, and how a run ends."""
+    """Begins with a text that is wrong from the start, and checks how a run ends."""
     with writer(text=WRONG) as run:
         page = run.ask('GET', '/anything')
         yield expect('wrong from the first', page[0], 503)

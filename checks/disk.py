@@ -1,12 +1,13 @@
 #!/usr/bin/env python3
-"""Runs the built program over a store on a disk that fails once. In each run one call of the system fails, the N-th
-`fdatasync` or the N-th `pwrite`, with EIO or with ENOSPC, while three viewers add events and list them. Then every answer
-but 503 stands: each event whose `POST` was answered is listed, from the next request on the pages are those of a fresh
-run over the same files, and a line on standard error names the store. Words: the program, and up to which N, 30 if not
-said. Prints each case that fails, and ends with a count. Where there is no C compiler nothing is done, and that is
-said.
+"""Runs the built program over a store on a disk that fails once. In each run one system call fails, the N-th
+`fdatasync` or the N-th `pwrite`, with EIO or with ENOSPC. Meanwhile events are added and listed for three viewers.
+Every answer except 503 must hold. Each event whose `POST` was answered must be listed. From the request after the fault
+on, the pages must be those of a fresh run over the same files. A line on standard error must name the store.
 
-A library that is loaded before the program counts these calls, and fails the one that it is told to."""
+A library that is loaded before the program counts these calls, and makes the chosen call fail.
+
+Arguments: the program, and the last N (30 by default). Prints each failed case, then a count. If there is no C
+compiler, the check is skipped and says so."""
 import contextlib
 import glob
 import http.client
@@ -102,7 +103,7 @@ def compiled(folder):
 
 
 def asked(port, token, method, path, body=None):
-    """The status and the body of a request on a connection of its own."""
+    """Sends a request on a connection of its own. Returns the status and the body."""
     headers = {'Content-Type': 'application/x-www-form-urlencoded'} if body else {}
     if token:
         headers['Cookie'] = 'session=' + token
@@ -113,7 +114,7 @@ def asked(port, token, method, path, body=None):
 
 
 def fresh_pages(folder):
-    """What a fresh run over a copy of the store lists for each viewer."""
+    """Returns what a fresh run over a copy of the store lists for each viewer."""
     events = ''.join('ask %s GET "/list" ""\n' % number for _, number in VIEWERS)
     with tempfile.TemporaryDirectory() as copies:
         for file in glob.glob(os.path.join(folder, 'd*')):
@@ -130,7 +131,7 @@ def pages(port):
 
 
 class Session:
-    """The requests of one run: what was answered, and what is wrong."""
+    """Sends the requests of one run. Records what was answered and what is wrong."""
 
     def __init__(self, folder, port):
         self.folder, self.port, self.added, self.faults, self.wrong = folder, port, [], 0, []
@@ -162,7 +163,7 @@ class Session:
 
 
 def run(folder, library, call, error, at):
-    """What is wrong with a run in which one call fails, and whether it failed."""
+    """Makes a run in which one call fails. Returns what is wrong, and whether the call was reached."""
     write(folder, 'app', APPLICATION)
     write(folder, 'sessions', SESSIONS)
     write(folder, 'begin', BEGIN)
@@ -195,7 +196,7 @@ def run(folder, library, call, error, at):
 
 
 def end_of_refused(folder, serve):
-    """What is wrong where the store couldn't be attached."""
+    """Returns what is wrong after a run that couldn't attach the store."""
     status, out = serve.end()
     wrong = [] if (status, out) == (6, b'store fault\n') else ['it ended with %d: %r' % (status, out)]
     want = [('200', '')] * 3

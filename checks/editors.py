@@ -1,11 +1,12 @@
 #!/usr/bin/env python3
-"""Compares the modes for editors (editors/) with the table that they are made of, the table with docs/LANGUAGE.md, and
-the modes with the examples. No words. Prints each that is wrong, and ends with a count.
+"""Compares the editor modes (editors/) with the table that they are made from, the table with docs/LANGUAGE.md, and the
+modes with the examples. No arguments. Prints each failure, then a count.
 
-Each form of docs/LANGUAGE.md is in the table, and each word of the table is a form there. The random applications, the
-reference interpreter and the places of faults have each form, and tools/form_places.py finds it. In the examples each word
-that begins a form has the group of its kind, by Vim, which is skipped where it isn't installed, and by the grammar in
-TextMate's form, which is read by a few lines here as an editor reads it."""
+Each form of docs/LANGUAGE.md must be in the table, and each word of the table must be a form on that page. The random
+applications, the reference interpreter and tools/fault_place.py must have each form, and tools/form_places.py must find
+it. In the examples, each word that begins a form must get the syntax group of its kind from Vim, and the scope of its
+kind from the TextMate grammar. The part for Vim is skipped if Vim isn't installed. A few lines of this script read the
+grammar as an editor does."""
 import glob
 import json
 import os
@@ -30,7 +31,7 @@ CODE = re.compile(r'`([^`\n]+)`')
 APART = re.compile(r'(?m)(?:^    .*\n)+')
 HEAD = re.compile(r'\(([a-z]+)(?=[\s)])')
 QUOTED = re.compile(r'"(?:[^"\\]|\\.)*"')
-# lists under these heads are a name with what belongs to it
+# lists inside these forms begin with a name, so they aren't forms
 OF_PAIRS = ('fields', 'params', 'set', 'guards')
 GROUPS = {'declaration': 'jacDeclaration', 'kind': 'jacKind', 'statement': 'jacStatement', 'part': 'jacStatement',
           'expression': 'jacExpression', 'query': 'jacQuery', 'order': 'jacOrder'}
@@ -39,7 +40,7 @@ SCOPES = {'declaration': 'storage.type.declaration', 'kind': 'storage.type.kind'
           'expression': 'support.function.expression', 'query': 'keyword.control.query',
           'order': 'keyword.operator.order'}
 EXAMPLES = ['examples/notes.app', 'examples/invitations.app', 'examples/records.app', 'examples/agenda.app']
-# words that begin no form, by Vim and by the grammar: the text before, the word, and its group and scope
+# words that don't begin a form: the text before the word, the word, its group in Vim and its scope in the grammar
 ATOMS = '''(app (viewer User)
  (model User (fields (name text) (age int)))
  (model Note nested (fields (text text) (to (ref User)))
@@ -64,7 +65,8 @@ WANTED = [
 
 
 def heads(node, parent=None):
-    """The atoms that begin a form in a tree, templates among it; a name with what belongs to it is no form."""
+    """Yields the atoms that begin a form in a tree, also inside templates. A list that begins with a name isn't a
+    form."""
     if node.kind != 'list':
         return
     head = node.head()
@@ -79,7 +81,7 @@ def heads(node, parent=None):
 
 
 def of_language():
-    """A result for each form of the page that the table hasn't, and for each word of the table that the page hasn't."""
+    """Checks that the table has each form of the page, and that the page has each word of the table."""
     known = {}
     for word, kind, _ in editors.forms():
         known.setdefault(word, set()).add(kind)
@@ -87,7 +89,7 @@ def of_language():
     rows = [line.split(' | ')[0] for line in text.split('\n') if line.startswith('| `')]
     tables = {head for row in rows for head in HEAD.findall(row)}
     yield None if len(tables) > 30 else '%s: %d forms in its tables' % (PAGE, len(tables))
-    # a branch is written (s ..) and (t ..) there, and s and t are statements
+    # the page writes branches as (s ..) and (t ..), where s and t stand for statements
     for word in sorted(tables - {'s', 't'}):
         yield None if word in known else 'editors/forms.txt has no %s, a form of %s' % (word, PAGE)
     for block in APART.findall(text):
@@ -102,14 +104,14 @@ def of_language():
     for word in editors.table()['statement'] + editors.table()['expression']:
         yield None if word in fault_place.SHAPES else 'tools/fault_place.py has no form %s' % word
         yield None if form_places.names(word) else 'tools/form_places.py finds no form %s' % word
-        # a template is expanded before an application is compared
+        # a template is expanded before applications are compared
         for path in (COMPARED if word != 'template' else ()):
             made = re.search(r"'%s'|\b(?:mean|run)_%s\b" % (word, word), read(path))
             yield None if made else '%s has no form %s' % (path, word)
 
 
 def of_block(block):
-    """The forms in what the page sets apart: an application, some of its parts or statements."""
+    """Returns the forms in an indented block of the page: an application, some of its parts, or statements."""
     if not block.startswith('('):
         return []
     data = ('(parts %s)' % block.replace(' ..', '')).encode()
@@ -123,7 +125,7 @@ def of_files():
 
 
 def wanted_in(path):
-    """The places of a file at which a form begins, by line and column from 1, and the kind of each."""
+    """Yields the places in a file at which a form begins, by line and column from 1, with the word and its kind."""
     with open(path, 'rb') as file:
         data = file.read()
     kinds = {}
@@ -137,7 +139,7 @@ def wanted_in(path):
 
 
 def of_atoms():
-    """The places of the words that begin no form."""
+    """Yields the places of the words that don't begin a form."""
     at = 0
     for before, word, group, scope in WANTED:
         at = ATOMS.index(before + word, at) + len(before)
@@ -146,7 +148,7 @@ def of_atoms():
 
 
 def by_vim(path, places):
-    """The groups that Vim gives to these places of a file."""
+    """Returns the file type and the groups that Vim gives to these places of a file."""
     with tempfile.TemporaryDirectory() as room:
         script, out = os.path.join(room, 'script.vim'), os.path.join(room, 'out')
         lines = ['set nocompatible', 'set runtimepath^=' + os.path.join(TOP, 'editors', 'vim'), 'syntax on',
@@ -160,7 +162,8 @@ def by_vim(path, places):
 
 
 class Grammar:
-    """Reads lines by a grammar as an editor does: in each line the rule that matches first, and of those the first."""
+    """Reads lines by a grammar as an editor does: in each line the rule that matches first wins, and of several such
+    rules the one listed first."""
 
     def __init__(self, grammar):
         self.repository = grammar['repository']
@@ -174,7 +177,7 @@ class Grammar:
                 yield pattern
 
     def scopes(self, text):
-        """The innermost scope of each character that has one, by line and column from 1."""
+        """Returns the innermost scope of each character that has one, by line and column from 1."""
         found, open_rules = {}, [self.top]
         for number, line in enumerate(text.split('\n'), 1):
             at = 0
@@ -204,7 +207,7 @@ class Grammar:
 
 
 def of_modes(path, places):
-    """What is wrong with the groups and scopes of a file: `places` has line, column, word, group and scope."""
+    """Checks the groups and scopes of a file. Each of `places` has a line, a column, a word, a group and a scope."""
     if shutil.which('vim'):
         have = by_vim(path, [place[:2] for place in places])
         wrong = [(place[:4], group) for place, group in zip(places, have[1:]) if place[3] != group]

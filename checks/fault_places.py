@@ -1,9 +1,9 @@
 #!/usr/bin/env python3
-"""Damages applications in known places, and compares the message (tools/fault_place.py) that stands beside the line of a
-refused application points there. Words: the program, and a seed (1). Prints each that is wrong, and ends with a count.
+"""Damages applications in known places, and checks that the message for the refused application (tools/fault_place.py)
+points there. Arguments: the program, and a seed (1 by default). Prints each failure, then a count.
 
-The applications are the examples. Of each damage the file, the line and the column are known from where it was made;
-where nothing is wrong, nothing may be said."""
+The applications are the examples. The file, the line and the column of each damage are known from how it was made. If
+nothing is wrong, there must be no message."""
 import glob
 import importlib.util
 import os
@@ -23,7 +23,7 @@ fault_place = importlib.util.module_from_spec(SPEC)
 SPEC.loader.exec_module(fault_place)
 
 WORDS = proved.words(seed={'metavar': 'SEED', 'nargs': '?', 'type': int, 'default': 1,
-                           'help': 'what chooses the damages (%(default)s)'})
+                           'help': 'the seed that chooses the damages (%(default)s)'})
 PROGRAM = os.path.abspath(WORDS.program)
 WANTED = 10
 OPERATIONS = {'add', 'sub', 'mul', 'eq', 'lt', 'and', 'or'}
@@ -49,7 +49,7 @@ def with_text(data, start, end, text):
     return data[:start] + text + data[end:]
 
 
-# Each damage gives pairs of a damaged text and the place that is meant, as many as there are.
+# Each of these functions yields all pairs of a damaged text and the place that the message has to name.
 
 def lost_brackets_of_items(data, tree):
     """The last bracket of a model or of a view is missing."""
@@ -58,7 +58,7 @@ def lost_brackets_of_items(data, tree):
 
 
 def lost_brackets(data, tree):
-    """The last bracket of a list is missing, and its neighbour begins the next line in the same column."""
+    """The last bracket of a list is missing, and what follows the list begins the next line in the same column."""
     for node in nodes(tree):
         for one, behind in zip(node.children, node.children[1:]):
             if one.kind == 'list' and fault_place.begins_its_line(data, one.start) and fault_place.begins_its_line(data, behind.start) \
@@ -98,7 +98,7 @@ def unknown_statements(data, tree):
 
 
 def quotes_in_tags(data, tree):
-    """Single quotes round a text in a template's tag."""
+    """A text in a template's tag is in single quotes."""
     for node in nodes(tree):
         if node.head() == 'template':
             text, places = node.children[1].value, node.children[1].places
@@ -110,7 +110,7 @@ def quotes_in_tags(data, tree):
 
 
 def lost_ends(data, tree):
-    """A block's `end` is missing: the innermost block that stays open is the outer one round that place."""
+    """The `end` of an outermost block is missing. The message has to name the beginning of that block."""
     for node in nodes(tree):
         if node.head() != 'template':
             continue
@@ -184,7 +184,7 @@ def twice_named(data, tree):
             yield with_text(data, at, at, b' ' + data[field.start:field.end]), at + 2
 
 
-# What is said of a text in the reader's words: the program's line has its code, and these have the place and the words.
+# Texts, each with the place and the words of its message. The program's own line has only a code.
 
 VIEW = '(app (model User (fields (name text) (age int)))\n (view get "/" (params (j int))\n  %s))'
 LOST = '(app (viewer User)\n (model User (fields (name text)))\n (view post "/" (params (years int))\n  %s))'
@@ -229,7 +229,7 @@ MESSAGES = [
      'this bracket closes the application, and something follows it: the item before, that of line 2, has a bracket '
      'too many'),
 ]
-# Further faults: the places at which something is said, in their order.
+# Texts with several faults: the places of the messages, in order.
 FURTHER = [
     (VIEW % '(put x) (put (get User towns (first (from ((u User)) true key)))) (put (add 1 "a"))', ['3:8', '3:26',
                                                                                                     '3:81']),
@@ -241,7 +241,7 @@ FURTHER = [
     ('(app\n %s)' % '\n '.join('(view get "/%d" (params) (put x))' % number for number in range(9)),
      ['%d:31' % line for line in range(2, 8)]),
 ]
-# Words of a command that the program refuses, and what is said of them; and words that it takes.
+# Arguments that the program refuses, with the message for each; then arguments that it accepts.
 COMMANDS = [
     ('', 'what jac does'), ('foo', 'there is no command foo\n'), ('serv a 1 1',
                                                                   'there is no command serv; is it serve?'),
@@ -264,7 +264,7 @@ COMMANDS = [
 TAKEN = ['check none', 'replay none b --db=-x --lazy', 'dump none 1,2 --db none', 'why none -', 'check -- -none',
          'upgrade --db=a=b none none', 'serve none 65535 1000000 --audit a --db b --sessions c', 'why none 0',
          'dump none 340282366920938463463374607431768211455']
-# Stores: the application that made one, what it is given to, and what is said of it.
+# Stores: the application that made the store, the command, the application that the command gets, and the message.
 WIDE = '(app (model User (fields (name text) (age int)) (group (guards (age 0)) (policy true))))'
 NARROW = '(app (model User (fields (name text))))'
 OTHER = '(app (model User (fields (name int))))'
@@ -301,7 +301,7 @@ DAMAGES = [lost_brackets_of_items, lost_brackets, brackets_too_many, operands_to
            policies_of_numbers, conditions_of_texts, comments, twice_named]
 
 
-# Sessions that the program refuses: the line and the column of what is wrong, and what is said of it.
+# Sessions files that the program refuses: the line and the column of the fault, and the message.
 SESSIONS = [
     (b'ann 4096\nbob Bob\n', '2:5', 'the viewer is the number of a record, or - for nobody, and not Bob'),
     (b'ann', '1:3', 'the viewer is missing: a line is TOKEN VIEWER'), (b'ann ', '1:4', 'the viewer is missing'),
@@ -333,14 +333,14 @@ EVENTS = [
     (b'open 1\nend 1\nend 1\n', '3:1', 'connection 1 ended in line 2'),
     (b'ask - GET "/" ""\r\n', '1:17', 'the line ends with a carriage return'),
 ]
-# and such that it takes
+# and files that it accepts
 LINES_TAKEN = [(b'', b''), (b'-_ 0\n\nann -\nann 7', b'ask - GET "\\x2f" "\xff\\""\nopen 0\ndata 0 ""\nend 0\nopen 0'),
                (b'a' * 128 + b' ' + str(2 ** 128 - 1).encode(), b'ask ' + b'0' * 35 + b'4096 QQQQQQQQQQQQQQQ "/" ""\n\n')]
 
 
 def expected(name, out, err, want):
-    """What is wrong with what is said, if anything: nothing stands on standard output, and no words are wanted at all
-    or these are among those on standard error."""
+    """Returns what is wrong with a message, or None. Standard output has to be empty. Standard error has to contain the
+    wanted words, or be empty if none are wanted."""
     right = not out and (want in err if want else not err)
     return None if right else '%s: wanted %s, and this is said: %s' % (name, want or 'nothing', (out + err)[:300])
 
@@ -378,7 +378,8 @@ def commands(folder):
 
 
 def refused_lines(folder):
-    """Of each refused file the place and the words, and of several wrong lines each."""
+    """Checks the place and the words for each refused file, and the lines that are named for a file with several wrong
+    lines."""
     names = {'sessions': (SESSIONS, ['replay', 'damaged.app', 'none', '--sessions', 'lines']),
              'events': (EVENTS, ['replay', 'damaged.app', 'lines'])}
     for kind, (cases, words) in names.items():

@@ -1,10 +1,10 @@
 #!/usr/bin/env python3
-"""Faults of what is around the built program, each at every place in turn: files that aren't read, an audit and an output
-that are full from each byte on, a disk that fills while requests are stored, a request that ends at each of its bytes,
-by events and over real connections, a client that breaks its connection there, requests that can't be read, and an
-application that ends at each of its bytes. A file is full where it may hold no more bytes than the process was granted.
-Words: the program. Prints each case that fails, and ends with a count. Where a client was late, so that its connection
-was let go, its part is looked at again, a bounded number of times (late.py)."""
+"""Causes each fault around the built program, at each place in turn. Files can't be read. An audit and an output are
+full from each byte on. A disk fills up while requests are stored. A request ends after each of its bytes, in events and
+over real connections. A client breaks its connection after each of these bytes. Requests are malformed. An application
+ends after each of its bytes. A file is full when it has reached the process's limit on the size of files. Argument: the
+program. Prints each failed case, then a count. If a client was so late that the program closed its connection, that
+part is repeated, a bounded number of times (late.py)."""
 import contextlib
 import functools
 import os
@@ -37,9 +37,9 @@ STORY = b'ask - POST "/join" "name=Ann"\nask - POST "/join" "name=Bob"\nask 4096
 REPLIES = [b'reply 200 "" "4096"\n', b'reply 200 "" "8192"\n', b'reply 200 "" "12289"\n']
 AUDIT = [b'1 200 - -\n', b'2 200 - -\n', b'3 200 4096 98312\n']
 FAULT = b'write fault\n'
-# a file that fills holds so much already that the store beside it has room
+# the size of a file before it fills up, so large that the limit leaves room for the store beside it
 HELD = 4 * 1024 * 1024
-# the request that curl makes of a form
+# the request that curl makes from a form
 FORM = b'POST /join HTTP/1.1\r\nHost: localhost:8080\r\nUser-Agent: curl/8.5.0\r\nAccept: */*\r\nContent-Length: 8\r\n' \
        b'Content-Type: application/x-www-form-urlencoded\r\n\r\nname=Ann'
 JOINED = b'HTTP/1.1 200 OK\r\nContent-Type: text/html; charset=utf-8\r\nContent-Length: %d\r\n\r\n%s'
@@ -54,7 +54,7 @@ BROKEN = {
 
 
 class Folder:
-    """A folder with the calendar, some events and a store, and runs of the program in it."""
+    """A folder with the calendar, some events and a store, in which the program is run."""
 
     def __init__(self, folder):
         self.folder = folder
@@ -72,7 +72,7 @@ class Folder:
         return sorted(os.listdir(self.folder))
 
     def run(self, *words, most=None, out=subprocess.PIPE):
-        """The status and the output, where no file may hold more bytes than that."""
+        """Runs the program. Returns the status and the output. No file may become larger than `most` bytes."""
         done = subprocess.run([PROGRAM, *words], cwd=self.folder, timeout=120, stdin=subprocess.DEVNULL, stdout=out,
                               stderr=subprocess.DEVNULL, preexec_fn=None if most is None else lambda: grant(most))
         return done.returncode, done.stdout
@@ -81,30 +81,31 @@ class Folder:
         return self.run('replay', 'a', 'e', '--db', 'd', *options, most=most, out=out)
 
     def clear(self):
-        """Takes away the store and the audit that a run left."""
+        """Removes the store and the audit that a run left."""
         for left in self.names():
             if left.startswith(('d', 'l')):
                 os.remove(self.path(left))
 
     def fill(self, name):
-        """Makes a file of that many bytes, which take no room on the disk."""
+        """Makes a file of HELD bytes that takes no room on the disk."""
         with open(self.path(name), 'wb') as handle:
             handle.truncate(HELD)
 
     def behind(self, name):
-        """What was written behind them."""
+        """Returns what was written after the first HELD bytes."""
         with open(self.path(name), 'rb') as handle:
             handle.seek(HELD)
             return handle.read()
 
     def number(self):
-        """The number of the next request that the store takes."""
+        """Returns the number of the next request that the store takes."""
         with contextlib.closing(sqlite3.connect(self.path('d'))) as database:
             return database.execute('SELECT number FROM meta').fetchone()[0]
 
 
 def grant(most):
-    """From here on the process may write no file past so many bytes, and is told so."""
+    """From now on the process can't write any file beyond `most` bytes. Such a write fails, and doesn't end the
+    process."""
     signal.signal(signal.SIGXFSZ, signal.SIG_IGN)
     resource.setrlimit(resource.RLIMIT_FSIZE, (most, most))
 
@@ -114,7 +115,7 @@ def expect(name, have, want):
 
 
 def unread(at):
-    """A file that isn't read: nothing is answered, and neither audit nor store is made."""
+    """Checks that nothing is answered if a file can't be read, and that neither an audit nor a store is made."""
     for name in 'a', 'e':
         with fresh() as other:
             os.remove(other.path(name))
@@ -124,7 +125,7 @@ def unread(at):
 
 
 def unaimed(at):
-    """An audit that can't be written to: nothing is answered, and no store is made."""
+    """Checks that nothing is answered if the audit can't be written, and that no store is made."""
     os.mkdir(at.path('l'))
     before = at.names()
     yield expect('an audit that is a folder', at.replay('--audit', 'l'), (5, FAULT))
@@ -132,13 +133,13 @@ def unaimed(at):
 
 
 def lines_within(lines, size):
-    """How many of the lines such a front of them holds whole."""
+    """Returns how many of the lines are complete within their first `size` bytes."""
     return sum(len(b''.join(lines[:count])) <= size for count in range(1, len(lines) + 1))
 
 
 def audits(at):
-    """An audit that takes so many bytes more: the request of the line that is torn was stored and has no reply, and
-    behind it nothing is answered or stored."""
+    """Checks an audit that has room for `size` more bytes. The request of the line that is cut off was stored and has
+    no reply. Nothing after it is answered or stored."""
     whole = b''.join(AUDIT)
     for size in range(len(whole) + 1):
         at.clear()
@@ -153,8 +154,8 @@ def audits(at):
 
 
 def outputs(at):
-    """An output that takes so many bytes more: the request of the reply that is torn is in the audit and was stored, and
-    behind it nothing is answered or stored. The line that tells the fault isn't taken either."""
+    """Checks an output that has room for `size` more bytes. The request of the reply that is cut off is in the audit
+    and was stored. Nothing after it is answered or stored. There is no room for the line about the fault either."""
     whole = b''.join(REPLIES)
     for size in range(len(whole) + 1):
         at.clear()
@@ -171,8 +172,8 @@ def outputs(at):
 
 
 def full_disks(at):
-    """A store whose files may grow to so many bytes: each POST is stored or answered with 503, each GET goes on showing
-    what is stored, and so does the next run."""
+    """Checks a store whose files may grow only to a given size. Each POST is stored or answered with 503. Each GET
+    still shows what is stored, and so does the next run."""
     joins = [b'%04d' % join * 250 for join in range(30)]
     ask = b'ask - POST "/join" "name=%s"\nask - GET "/names" ""\n'
     at.write('a', CALENDAR[:-1] + b'\n (view get "/names" (params)'
@@ -201,7 +202,7 @@ def full_disks(at):
 
 
 def fronts(at):
-    """A request that ends before its last byte has no reply, and takes no number."""
+    """Checks that a request which ends before its last byte gets no reply and no number."""
     def quoted(data):
         return data.replace(b'\r', b'\\r').replace(b'\n', b'\\n')
 
@@ -215,7 +216,7 @@ def fronts(at):
 
 
 def read_all(line):
-    """What comes until the peer ends the connection."""
+    """Returns what arrives until the peer ends the connection."""
     parts = []
     while True:
         part = line.recv(65536)
@@ -225,7 +226,7 @@ def read_all(line):
 
 
 def asked(run, data):
-    """What comes back for these bytes, on a connection on which no more are sent."""
+    """Sends these bytes and closes the sending side of the connection. Returns what comes back."""
     with run.connect() as line:
         line.sendall(data)
         line.shutdown(socket.SHUT_WR)
@@ -233,8 +234,8 @@ def asked(run, data):
 
 
 def connections(at):
-    """The same over real connections, those that end in good order and those that break; each ends alone, and the next
-    one is served."""
+    """Checks the same over real connections that the client ends or breaks. The end of one affects no other, and the
+    next one is served."""
     with served(PROGRAM, 'a', 2 * len(FORM) + 2, at.folder) as run:
         for size in range(len(FORM)):
             yield expect('a connection that ends behind %d bytes' % size, asked(run, FORM[:size]), b'')
@@ -249,7 +250,8 @@ def connections(at):
 
 
 def broken(at):
-    """What is no request, over real connections: a reply, and the connection is closed, whatever would follow."""
+    """Checks bytes that are no request, over real connections. There is one reply, and the connection is closed
+    whatever would follow."""
     with served(PROGRAM, 'a', len(BROKEN), at.folder) as run:
         for data, status in BROKEN.items():
             want = b'HTTP/1.1 %s\r\nContent-Type: text/plain; charset=utf-8\r\nContent-Length: %d\r\nConnection: close\r\n' \
@@ -262,7 +264,7 @@ def broken(at):
 
 
 def applications(at):
-    """An application that ends before its last byte."""
+    """Checks an application that ends before its last byte."""
     for size in range(len(CALENDAR)):
         at.write('a', CALENDAR[:size])
         yield expect('the first %d bytes of an application' % size, at.run('check', 'a'),

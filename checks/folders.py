@@ -1,9 +1,10 @@
 #!/usr/bin/env python3
-"""Checks applications that are folders: what `tools/assemble.py` puts together, the places that its map and the message
-name, the exit statuses, and that `jac serve` of a folder ends as the program does and leaves no file.
+"""Checks applications that are folders: the text that `tools/assemble.py` puts together, the places that its map and
+the messages name, and the exit statuses. Also checks that `jac serve` of a folder ends as the program does and leaves
+no file.
 
-Words: the script `jac`, or a program that `tools/run_folder.py` is to run. Without Jinja2 all is skipped but what is
-said where it is missing. Prints each case that fails, and ends with a count."""
+Arguments: the script `jac`, or a program that `tools/run_folder.py` runs. Without Jinja2 everything is skipped except
+the test of the message that names the missing package. Prints each failed case, then a count."""
 import argparse
 import filecmp
 import glob
@@ -55,7 +56,7 @@ TEXT = '''(app (viewer Person)
 ")))
 '''
 PARTS = {'main': MAIN, 'pages/rules': RULES, 'pages/layout.html': LAYOUT, 'pages/list.html': LIST}
-# a change of a part, the line of the program, and the place that the message names
+# a change of a part, the program's line, and the place that the message names
 REFUSED = [
     ('pages/list.html', 'get Person name p', 'get Persn name p', 'app: view 1: unknown name Persn',
      'pages/list.html:4:53: in the view get /: there is no model Persn'),
@@ -70,7 +71,7 @@ REFUSED = [
     ('main', '(create p Person', '(create p Persons', 'app: view 0: unknown name Persons',
      'main:6:52: in the view post /join: '),
 ]
-# a change of a part that Jinja2 takes no more, and what is said, with its place
+# a change of a part that Jinja2 refuses, and the message with its place
 FAULTY = [
     ('pages/list.html', '[% block main %]', '[% blok main %]', "pages/list.html:2: Encountered unknown tag 'blok'."),
     ('pages/list.html', '"layout.html"', '"lay.html"', 'pages/list.html:1: there is no part lay.html in '),
@@ -84,7 +85,7 @@ FAULTY = [
 
 
 class Folder:
-    """A folder of parts in a temporary one."""
+    """A folder of parts in a temporary directory."""
 
     def __init__(self, room, parts):
         self.room, self.path = room, os.path.join(room, 'site')
@@ -112,7 +113,7 @@ def changed(name, old, new):
 
 
 def of_the_text(command):
-    """What is put together, its map, and a replay of it."""
+    """Checks the text that is put together, its map, and a replay of it."""
     with tempfile.TemporaryDirectory() as room:
         folder = Folder(room, PARTS)
         have = folder.ran(script('assemble.py'), 'site', '--map', 'map')
@@ -133,7 +134,7 @@ def of_the_text(command):
 
 
 def of_the_place(command):
-    """The program's line, and the place in a part that the message names on standard error."""
+    """Checks the program's line, and the place in a part that the message on standard error names."""
     pointing = command if command[-1].endswith('jac') else None
     for name, old, new, line, place in REFUSED:
         with tempfile.TemporaryDirectory() as room:
@@ -146,7 +147,7 @@ def of_the_place(command):
 
 
 def of_faults(command):
-    """What is said of a fault of Jinja2, and the exit status, by each script that takes a folder."""
+    """Checks the message for a fault that Jinja2 finds, and the exit status, for each script that takes a folder."""
     for name, old, new, words in FAULTY:
         with tempfile.TemporaryDirectory() as room:
             folder = Folder(room, changed(name, old, new))
@@ -158,7 +159,7 @@ def of_faults(command):
 
 
 def of_lacking_jinja(command):
-    """Without Jinja2 one line names its package, and a single file is served as ever."""
+    """Checks that without Jinja2 one line names its package, and that a single file can still be used."""
     with tempfile.TemporaryDirectory() as room:
         folder = Folder(room, PARTS)
         with open(os.path.join(room, 'jinja2.py'), 'w', encoding='utf-8') as file:
@@ -174,7 +175,7 @@ def of_lacking_jinja(command):
 
 
 def of_serving(command):
-    """A service over a folder listens, is ended by the signal that it is sent, and leaves no file."""
+    """Checks that a service over a folder listens, is ended by the signal that it gets, and leaves no file."""
     for number in (signal.SIGTERM, signal.SIGINT, signal.SIGKILL):
         with tempfile.TemporaryDirectory() as room, tempfile.TemporaryDirectory() as temporary:
             folder = Folder(room, PARTS)
@@ -192,7 +193,7 @@ def of_serving(command):
 
 
 def of_the_examples():
-    """Beside the parts of an example is what they are put together to, as `app`."""
+    """Checks that the parts of each example have their assembled text beside them, in the file `app`."""
     mains = sorted(glob.glob(os.path.join(TOP, 'examples', '**', 'main'), recursive=True))
     for path in mains:
         folder = os.path.dirname(path)
@@ -203,13 +204,13 @@ def of_the_examples():
             'python3 tools/assemble.py %s > %s/app' % (name, name, name)
 
 
-# The parts that the next version of the courses takes from the first as they are.
+# The parts that the next version of courses takes unchanged from the first one.
 COPIES = ('first/course.html', 'first/export.html', 'first/forms.html', 'first/people.html', 'first/task.html',
           'courses.html', 'layout.html', 'login.html', 'none.html', 'refused.html', 'rules', 'style.css')
 
 
 def of_the_copies():
-    """The parts that two versions of an example share are the same."""
+    """Checks that the parts that two versions of an example share are the same."""
     first, second = (os.path.join(TOP, 'examples', name, 'pages') for name in ('courses', 'courses/next'))
     for name in COPIES:
         own, copy = os.path.join(first, os.path.basename(name)), os.path.join(second, name)

@@ -1,21 +1,22 @@
 #!/usr/bin/env python3
-"""Runs what docs/LANGUAGE.md shows, and what the other pages show of applications. Words: the program. Prints each
-line that is wrong, and ends with a count.
+"""Runs the examples of docs/LANGUAGE.md, and what the other pages show of applications. Argument: the program. Prints
+each wrong line, then a count.
 
-An example says what it puts: `STATEMENTS` puts `TEXT`, `TEMPLATE` puts `TEXT`, `EXPRESSION` is `TEXT`, `STATEMENTS`
+An example states its output: `STATEMENTS` puts `TEXT`, `TEMPLATE` puts `TEXT`, `EXPRESSION` is `TEXT`, `STATEMENTS`
 answers 404 with `TEXT`, `STATEMENTS` redirects to `LOCATION`. It runs in the page's library, which its `/fill` has
-filled. Lines that are set apart are an application, its parts, a query or statements, and the program has to accept
-them; a model counts for what stands behind it. On every page an application that is set apart has to be accepted. On
-the page of an example's folder a view that is set apart stands in its application, lines that begin with a digit are
-lines of its audit or of what `why` told, and what a table tells of who asks stands in its output, escaped as HTML is. The pages
-of these examples have one style.
+filled. An indented block is an application, some of its parts, a query or statements, and the program has to accept it.
+A model in a block is known in the blocks after it. On every page, the program has to accept each indented application.
 
-In the section on writing each case that is named is one of checks/cases, and each form stands in one of them, `..` for
-whatever is left out; what it says and no case has runs here, as does the tutorial's slip. What docs/TEMPLATES.md sets
-apart of a view stands in an example.
+On the page of an example's folder, an indented view has to be in the example's application. Lines that begin with a
+digit have to be lines of its audit or of the output of `why`. What a table says that a viewer reads has to be in its
+output, escaped as HTML. The pages of these examples have one style.
 
-README's first application is an example, in which there is nothing to look at, and the replies that README shows are
-those of its run."""
+In the section on writing, each case that is named has to be in checks/cases, and each form has to be in one of these
+cases, where `..` stands for whatever is left out. What the section says and no case has runs here, and so does the
+tutorial's mistake. Each part of a view that docs/TEMPLATES.md shows in an indented block has to be in an example.
+
+README's first application has to be an example about which the linter reports nothing. The replies that README shows
+have to be those of its run."""
 import glob
 import html
 import os
@@ -40,7 +41,7 @@ EVENTS = 'ask - POST "/fill" ""\nask 4096 %s "/example" ""\n'
 QUOTED = re.compile(r'"(?:[^"\\]|\\.)*"')
 INLINE = re.compile(r'`([^`\n]+)`')
 
-# Whoever posts it deletes a draft; words that the form sends once more are nobody's copy.
+# Whoever posts /drop deletes a draft. Words that the form sends again aren't a copy of the draft's words.
 WRITING = '''(app (viewer User)
  (model User (fields (name text)))
  (model Draft (fields (author (ref User)) (words text))
@@ -63,7 +64,7 @@ ask 8192 POST "/drop/20481" ""
 ask - GET "/" ""
 '''
 READS = [(5, 'reply 200 "" "1 drafts, spring;"'), (7, 'reply 200 "" "0 drafts, spring;"')]
-# Ann adds a closed event, Bob saves the form that was filled for him, Ann lists the events.
+# Ann adds a closed event. Bob saves the form that was filled in for him. Ann lists the events.
 RENAME = '''ask - POST "/join" "name=Ann"
 ask - POST "/join" "name=Bob"
 ask 4096 POST "/add" "title=raid&open=0"
@@ -74,12 +75,12 @@ RENAMED = [['reply 200 "" ""', 'reply 200 "" "private;"'], ['reply 404 "" "not y
 
 
 def apart(page):
-    """The blocks that are set apart by four spaces."""
+    """Returns the blocks of a page that are indented by four spaces."""
     return [textwrap.dedent(block).strip('\n') for block in APART.findall(read(page))]
 
 
 def trees(text):
-    """The lists of a text that stand beside each other; brackets in quotes don't count."""
+    """Returns the outermost lists of a text. Brackets in quotes don't count."""
     plain, depth, start, found = QUOTED.sub(lambda found: '_' * len(found[0]), text), 0, 0, []
     for at, byte in enumerate(plain):
         if byte == '(':
@@ -93,7 +94,7 @@ def trees(text):
 
 
 def models(text):
-    """The models of an application or of some of its parts, by name."""
+    """Returns the models of an application or of some of its parts, by name."""
     parts = trees(text[1:-1]) if text.startswith('(app') else trees(text)
     return {part.split()[1]: part for part in parts if part.startswith('(model ')}
 
@@ -103,7 +104,7 @@ def application(known, rest):
 
 
 def program(words, files):
-    """A run over these files: its status and the lines of its output."""
+    """Runs the program over these files. Returns its status and the lines of its output."""
     with tempfile.TemporaryDirectory() as folder:
         for name, text in files.items():
             with open(os.path.join(folder, name), 'w', encoding='utf-8') as handle:
@@ -113,7 +114,7 @@ def program(words, files):
 
 
 def refused(app):
-    """What the program says against an application, or nothing."""
+    """Returns what the program says against an application, or None."""
     status, lines = program(['check', 'app'], {'app': app})
     return None if status == 0 else lines[-1]
 
@@ -123,7 +124,7 @@ def quoted(text):
 
 
 def view(code, kind):
-    """The view whose page shows an example."""
+    """Returns the method and the text of the view whose page shows an example."""
     if kind == 'is':
         code = '(put %s)' % code
     elif not code.startswith('('):
@@ -147,7 +148,7 @@ def wrong_example(library, code, kind, text):
 
 
 def part_of(known, block):
-    """The application that a block is a part of; what `..` leaves out may be nothing."""
+    """Returns the application that a block is a part of. `..` is replaced by nothing."""
     block = block.replace(' ..', '')
     if block.startswith(('(model', '(view')):
         known = {**known, **models(block)}
@@ -158,7 +159,7 @@ def part_of(known, block):
 
 
 def of_language():
-    """A result for each example and each block of the page of the language."""
+    """Checks each example and each block of the page of the language."""
     blocks = [block for block in apart(PAGE) if block.startswith('(')]
     library = next(block for block in blocks if block.startswith('(app'))
     for code, kind, text in EXAMPLE.findall(read(PAGE)):
@@ -172,7 +173,7 @@ def of_language():
 
 
 def of_pages():
-    """A result for each application on any page, and for what the page of a folder cites of it."""
+    """Checks each application on any page, and what the page of an example's folder quotes from the folder."""
     names = ['README.md'] + sorted(glob.glob('docs/*.md', root_dir=TOP)) + sorted(glob.glob('examples/*/README.md', root_dir=TOP))
     for name in names:
         for block in apart(name):
@@ -186,7 +187,7 @@ def of_pages():
 
 
 def uncited(folder, block):
-    """What the page of a folder cites and the folder hasn't."""
+    """Returns what the page of a folder quotes and the folder doesn't have."""
     if block.startswith('(') and textwrap.indent(block, ' ') not in beside(folder, 'app', 'next/app'):
         return '%s: not in its application: %s' % (folder, block)
     if block.startswith('<') and block not in beside(folder, 'pages/export.html'):
@@ -197,12 +198,12 @@ def uncited(folder, block):
 
 
 def beside(folder, *names):
-    """What these files of the folder hold, as far as it has them."""
+    """Returns the contents of these files of the folder, as far as they exist."""
     return ''.join(read('%s/%s' % (folder, name)) for name in names if os.path.exists(os.path.join(TOP, folder, name)))
 
 
 def of_styles():
-    """A result for the styles of the larger examples, which are one."""
+    """Checks that the larger examples all have the same style."""
     names = glob.glob('examples/*/app', root_dir=TOP) + glob.glob('examples/*/next/app', root_dir=TOP)
     styles = {style for name in names for style in STYLE.findall(read(name))}
     yield None if len(styles) == 1 else 'examples: %d styles' % len(styles)
@@ -213,7 +214,7 @@ def plain(text):
 
 
 def of_writing():
-    """A result for each case that the section on writing names, for each of its forms, and for what no case has."""
+    """Checks each case that the section on writing names, each form of that section, and what no case has."""
     section = read(PAGE).split('\n## Writing\n')[1].split('\n## ')[0]
     cases = ['checks/cases/%s.case' % name for name in re.findall(r'`([a-z_]{12,})`', section)]
     missing = [case for case in cases if not os.path.exists(os.path.join(TOP, case))]
@@ -229,7 +230,7 @@ def of_writing():
 
 
 def of_the_slip():
-    """A result for each of the tutorial's two views that rename an event of its calendar."""
+    """Checks the tutorial's two views that rename an event of its calendar."""
     calendar = read('examples/calendar.app').rstrip()
     views = [block for block in apart('docs/TUTORIAL.md') if block.startswith('(view post "/rename"')]
     yield None if len(views) == len(RENAMED) else 'docs/TUTORIAL.md: %d views that rename' % len(views)
@@ -239,7 +240,8 @@ def of_the_slip():
 
 
 def of_readme():
-    """A result for the README's first application, for the replies that it shows, and for what there is to look at in it."""
+    """Checks the README's first application, the replies that README shows, and that the linter reports nothing about
+    it."""
     blocks = apart('README.md')
     name = re.search(r'`(examples/\S+)\.app`', read('README.md')).group(1)
     app, events, out = (read('%s.%s' % (name, end)) for end in ('app', 'events', 'out'))
@@ -254,7 +256,7 @@ def of_readme():
 
 
 def of_templates():
-    """A result for each part of a view that the page on templates sets apart."""
+    """Checks each part of a view that the page on templates shows in an indented block."""
     examples = [plain(read(name)) for name in ('examples/guestbook.app', 'examples/notes.app')]
     for block in apart('docs/TEMPLATES.md'):
         if block.startswith(('(view', '(let', '(if', '{%')):
@@ -262,7 +264,7 @@ def of_templates():
 
 
 def untold(folder, table):
-    """What a table says that somebody read, and the folder's output hasn't."""
+    """Returns what a table says that somebody read and the folder's output doesn't have."""
     out = beside(folder, 'out', 'next/out')
     lacking = [text for text in re.findall(r'`([^`\n]+)`', table) if html.escape(text) not in out]
     return '%s: not in its output: %s' % (folder, lacking[0]) if lacking else None

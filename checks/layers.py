@@ -1,9 +1,9 @@
 #!/usr/bin/env python3
-"""Makes the table of docs/LAYERS.md from crates.txt: each storey with its crates, their promises, and the crates right
-below them. A crate that another one of the same line rests on is left out. Where the page is out of date it says so, and
-its status is 1. It also fails where a crate has no promise, or uses one that doesn't come before it. With the word
---write it writes the table anew. Instead, the word --lines prints the lines of code of each crate, and --laws the laws of
-each crate that no code calls: public functions whose comment begins with "A law"."""
+"""Makes the table of docs/LAYERS.md from crates.txt: each storey with its crates, their promises, and the crates
+directly below them. A crate is left out if another crate of the same line rests on it. If the page is out of date, this
+says so and ends with status 1. It also fails if a crate has no promise, or uses a crate that doesn't come before it.
+With --write it rewrites the table. With --lines it prints the lines of code of each crate instead. With --laws it
+prints the laws of each crate that no code calls, which are public functions whose comment begins with "A law"."""
 import os
 import re
 import sys
@@ -17,7 +17,8 @@ LAW = re.compile(r'/// A law\b(?:.*\n *///)*.*\n *pub fn (\w+)')
 
 
 def storeys(text):
-    """The storeys as (heading, crates), each crate as (name, promise, the names that it uses), and what is wrong."""
+    """Returns the storeys as (heading, crates), each crate as (name, promise, the names that it uses), then what is
+    wrong, then the names of all crates."""
     found, wrong, comment, order = [], [], None, []
     for line in text.split('\n'):
         if line.startswith('# ') and line[2:3].isdigit():
@@ -41,7 +42,8 @@ def storeys(text):
 
 
 def reduced(found, own):
-    """By crate the crates of the repository that it uses, without those that one of these rests on."""
+    """Returns, for each crate, the crates of the repository that it uses, without those that another one of these rests
+    on."""
     uses = {name: [used for used in uses if used in own] for _, crates in found for name, _, uses in crates}
     rests = {}
     for name, used in uses.items():
@@ -63,13 +65,13 @@ def table(found, own):
 
 
 def sources(name):
-    """The texts of the crate's modules."""
+    """Returns the texts of the crate's modules."""
     folder = os.path.join('crates', name, 'src')
     return [read(os.path.join(folder, file)) for file in sorted(os.listdir(folder)) if file.endswith('.rt')]
 
 
 def laws(found):
-    """A line for each crate that has laws which no function calls."""
+    """Yields a line for each crate that has laws which no function calls."""
     names = [name for _, crates in found for name, _, _ in crates]
     texts = {name: sources(name) for name in names}
     called = set(re.findall(r'(?<!fn )\b(\w+)\(\)', '\n'.join(text for each in texts.values() for text in each)))

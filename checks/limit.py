@@ -1,7 +1,7 @@
 #!/usr/bin/env python3
-"""Sends the built program on one connection as many bytes as count, 16,777,216, and one more: each request within the
-limit has its page, and one whose last byte is past it has none, so that a limit lower or higher by a byte is seen.
-Words: the program. Prints each case that fails, and ends with a count."""
+"""Sends the built program as many bytes on one connection as it reads from one, 16,777,216, and one more. Each request
+within the limit must get its page. A request whose last byte is past the limit must get none. So a limit that is a byte
+lower or higher is noticed. Argument: the program. Prints each failed case, then a count."""
 import contextlib
 import os
 import sys
@@ -13,28 +13,28 @@ from support.serving import served
 
 PROGRAM = proved.program(proved.first_word())
 LIMIT = 16777216
-SIZE = 65536        # of a request; its body is less than the most that one may have
+SIZE = 65536        # of a request; its body is below the limit for a body
 HELLO = b'(app (view get "/" (params) (put "hello")) (view post "/" (params) (put "posted")))'
 HEAD = b'POST / HTTP/1.1\r\nHost: a\r\nContent-Type: application/x-www-form-urlencoded\r\nContent-Length: %d\r\n\r\n'
 REPLY = b'HTTP/1.1 200 OK\r\nContent-Type: text/html; charset=utf-8\r\nContent-Length: 6\r\n\r\nposted'
-PATIENCE = 15       # seconds within which what the program has to do is done
+PATIENCE = 15       # seconds that the program has for what it has to do
 
 
 def post(size):
-    """A request of so many bytes."""
+    """Returns a request of `size` bytes."""
     body = next(n for n in range(size, 0, -1) if len(HEAD % n) + n == size)
     return HEAD % body + b'x' * body
 
 
 def requests(total):
-    """Requests that are so many bytes together, and how many they are."""
+    """Returns requests that have `total` bytes together, and how many requests these are."""
     sizes = [SIZE] * (round(total / SIZE) - 1)
     sizes.append(total - sum(sizes))
     return b''.join(map(post, sizes)), len(sizes)
 
 
 def received(line, wanted):
-    """What comes, up to so many bytes, or to the end."""
+    """Returns what arrives, up to `wanted` bytes or to the end."""
     parts, size = [], 0
     while size < wanted:
         part = line.recv(min(65536, wanted - size))
@@ -46,7 +46,7 @@ def received(line, wanted):
 
 
 def ends(line):
-    """Whether nothing more comes and the peer ends the connection, soon."""
+    """Returns whether nothing more arrives and the peer soon ends the connection."""
     try:
         return line.recv(1) == b''
     except ConnectionResetError:
@@ -57,7 +57,7 @@ def ends(line):
 
 @contextlib.contextmanager
 def sent(data):
-    """A run, and a connection on which this is sent while its replies are read."""
+    """Yields a run, and a connection on which the data is sent while the caller reads the replies."""
     with tempfile.TemporaryDirectory() as folder:
         with open(os.path.join(folder, 'app'), 'wb') as app:
             app.write(HELLO)
@@ -70,7 +70,7 @@ def sent(data):
 
 
 def send(line, data):
-    """What the peer no longer takes is left."""
+    """Sends the data. Ignores what the peer no longer takes."""
     with contextlib.suppress(ConnectionError):
         line.sendall(data)
 
@@ -89,7 +89,7 @@ def counted(name, run, replies):
 
 
 def whole():
-    """Requests that are the limit together have their pages, and one behind them has none."""
+    """Checks that requests of LIMIT bytes together get their pages, and that a request after them gets none."""
     data, count = requests(LIMIT)
     with sent(data + post(200)) as (run, line):
         yield from pages('all bytes', line, count)
@@ -99,7 +99,7 @@ def whole():
 
 
 def one_more():
-    """A request whose last byte is past the limit has no page."""
+    """Checks that a request whose last byte is past the limit gets no page."""
     data, count = requests(LIMIT + 1)
     with sent(data) as (run, line):
         yield from pages('a byte more', line, count - 1)

@@ -1,13 +1,12 @@
 #!/usr/bin/env python3
-"""Compares what the linter (tools/lint.py), the audit in words (tools/audit.py) and the reasons in words
-(tools/why.py) say with what was written down here by hand. Words: the program, or none. Prints each that is wrong, and
-ends with a count.
+"""Compares what the linter (tools/lint.py), the audit in words (tools/audit.py) and the reasons in words (tools/why.py)
+say with expectations written by hand. Argument: the program, or none. Prints each failure, then a count.
 
-Of each application the lines and columns are written down at which it says `look at this`, with the entries that accept
-them; where it has nothing to say, none. Applications are those of checks/linted, each with something that people were
-surprised by, worked cases, examples, and texts below. Of three audits lines are written down. Of `why` the lines and
-the rows of a store are written down, with what is said of them. Where the program is named, it makes these lines and
-rows too, and the same is said of them; where it isn't, that part is skipped."""
+For each application there are the lines and columns at which the linter says `look at this`, with the entries that
+accept them, or none if it has nothing to say. The applications are those of checks/linted, each with something that
+surprised people, worked cases, examples, and texts below. For some audits there are lines of the output. For `why`
+there are its lines and the rows of a store, with what is said about them. If the program is given, it makes these lines
+and rows too, and the same must be said about them. Otherwise that part is skipped."""
 import contextlib
 import glob
 import io
@@ -30,13 +29,13 @@ import why                                                                  # no
 
 
 def application(case):
-    """A file of a worked case: `app`, or that which is named after the case."""
+    """Returns a file of a worked case: `app`, or the file whose name follows the name of the case."""
     case, _, name = case.partition(' ')
     with open(os.path.join(TOP, 'checks', 'cases', case + '.case'), encoding='utf-8') as file:
         return re.search(r'(?s)== file %s\n(.*?\n)== ' % (name or 'app'), file.read()).group(1)
 
 
-# Words that the message of each kind has, as patterns.
+# Words of the message of each kind, as patterns.
 WORDS = {
     'write': 'asks who the viewer is', 'unasked': 'so anybody may decide who',
     'branch': '(?:depends on a condition|finds its record by a value) that',
@@ -47,7 +46,7 @@ WORDS = {
     'unlinked': 'no page of this application leads here',
 }
 
-# Where each application is to be looked at: the line, the column, and the entry without its view or model.
+# What the linter says about each application: the line, the column, and the entry without its view or model.
 CASES = {
     'a_form_saves_what_it_was_filled_with': [
         (4, 44, 'nobody (get Card owner this)'), (9, 25, 'write Card.phone')],
@@ -82,20 +81,20 @@ TRAPS = {
     'checks/linted/tickets.app': [(9, 7, 'branch Ticket')],
     'checks/linted/visits.app': [(9, 29, 'branch Visit'), (14, 8, 'branch Visit'), (14, 36, 'unasked Visit')],
     'checks/linted/wards.app': [(7, 37, 'unasked Person.nurse'), (11, 26, 'unasked Person.ward')],
-    # loops in loops, references that are followed, orders that decide, and numbers that a loop adds up
+    # loops in loops, references that are followed, orders that decide something, and numbers that a loop adds up
     'checks/linted/prizes.app': [
         (12, 12, 'branch Score.points'), (20, 32, 'branch Score.points'), (25, 32, 'branch Score.points'),
         (30, 58, 'sum Score.points')],
-    # fields of the viewer, what a policy finds by a reference or by an order, names that are bound again
+    # fields of the viewer, what a policy finds through a reference or by an order, names that are bound again
     'checks/linted/teams.app': [
         (6, 44, 'nobody (get Plan team this)'), (11, 97, 'nobody (get Member person m)'), (21, 58, 'unasked Team'),
         (22, 89, 'unasked Member.rank'), (23, 91, 'unasked Person.chair'), (29, 14, 'nobody (get Plan team id)'),
         (34, 37, 'write Plan.words')],
-    # what the check of a view asks, a value that is assigned, and a copy of a hidden record
+    # what a view's check reads, a value that is assigned, and a copy of a hidden record
     'checks/linted/guards.app': [
         (10, 3, 'unasked Shift'), (12, 37, 'unasked Person.guard'), (24, 28, 'write Door.code'),
         (27, 34, 'copy Diary.words')],
-    # addresses, branches and loops that end inside of a tag, markup behind names
+    # addresses, branches and loops that end inside a tag, markup that names stand for
     'checks/linted/signs.app': [
         (6, 19, 'escape q'), (6, 48, 'escape q'), (8, 67, 'escape Person.name'), (9, 74, 'escape link'),
         (9, 121, 'escape link'), (10, 20, 'escape Sign.words'), (10, 69, 'escape link'), (11, 90, 'escape q'),
@@ -105,7 +104,7 @@ TRAPS = {
         (4, 94, 'redirect to'), (5, 77, 'redirect to'), (6, 93, 'redirect to'), (10, 14, 'redirect Way.to'),
         (11, 89, 'redirect to')],
 }
-# An application in a folder: each place is one in a part, and the entry has its view.
+# An application in a folder: each place is in a part, and the entry has its view.
 HALL = [
     ('pages/rules:2:1', 'model Booking: nobody (get Booking team this)'),
     ('main:10:104', 'view post /book: redirect day'),
@@ -133,7 +132,7 @@ EXAMPLES = {
     'examples/records.app': [(25, 30, 'branch Record')],
     'examples/shop.app': [],
 }
-# Of these nothing is to be looked at but what is accepted, and of the larger ones something is.
+# All that the linter reports about these is accepted. About the larger ones it does report something.
 SMALL = sorted(glob.glob('examples/*.app', root_dir=TOP))
 LARGE = ('examples/calendar/app', 'examples/conference/app', 'examples/courses/app', 'examples/courses/next/app',
          'examples/health/app')
@@ -145,7 +144,7 @@ MODEL = '''(app (viewer User)
  (model Paper (fields (words text)))
 %s)
 '''
-# what is right, in forms that a rash look would take for a fault, and what is hidden from one behind a name
+# correct views that a hasty linter would report, and faults that a name hides from it
 VIEWS = {
     'a loop that counts what is found by a guarded text': ('''
  (view get "/" (params (q text) (skip int))
@@ -227,7 +226,7 @@ VIEWS = {
                                  [(7, 72, 'escape to')]),
 }
 
-# Of fire.app, with views before its last one and with what was accepted: the status, the lines, and what is left.
+# For fire.app, with views added before its last one and with accepted entries: the status, the lines, and what is left.
 ALL = '''view post /first: unasked Person.hr
     The first one is whoever serves it.
 
@@ -312,7 +311,7 @@ ask - POST "/join" "name=Bob"
 ask 4096 POST "/write" "body=tired"
 ask 4096 POST "/note" "id=12289"
 '''
-# Of the two notes one is made where the entry (12289, label 98312) is shown, and one where it is hidden: 16386 and
+# One of the two notes is made where the entry (12289, label 98312) is shown, and one where it is hidden: 16386 and
 # 16450, by the first and the second create of the fourth request.
 ENTRY = 'Entry 12289 (made by POST 3): the record'
 SEEN, UNSEEN = 'Note 16386 (made by POST 4): body', 'Note 16450 (made by POST 4): body'
@@ -323,7 +322,7 @@ ROWS = [(4096, []), (8192, []),
         (16450, [(98312, 0), (131600, 0)]), (16450, [(98312, 0), (131600, 1)])]
 PAPER = 'by its own policy, which is false: app:6: (and (live viewer) (or (eq (get Paper owner this) viewer) ' \
     '(some (from ((r Reader)) (and (eq (get Reader paper r) this) (eq (get Reader person r) viewer)) key))))'
-# The application, its requests, who asks, the lines of `why`, the rows of the store, and what is said with them.
+# The application, its requests, the viewer, the lines of `why`, the rows of the store, and what is said about them.
 REASONS = {
     'a policy that is false, and records that are not there': (DIARY, WRITTEN, '8192', '''shown 131600
 98312 Entry 12289 0 because 98312 Entry 12289 0
@@ -388,7 +387,8 @@ hidden stays Note 8192 (made by POST 2): body
 
 
 def run(tool, words, folder=TOP):
-    """The exit status of a tool, and what it says. It is called in this process, so that it begins at once."""
+    """Returns the exit status and the output of a tool. The tool is called in this process, so that it starts at
+    once."""
     said, before = io.StringIO(), os.getcwd()
     os.chdir(folder)
     try:
@@ -403,7 +403,7 @@ def run(tool, words, folder=TOP):
 
 
 def looked(name, path, want):
-    """What is wrong with what the linter says of a file of which nothing was accepted, if anything."""
+    """Returns what is wrong with the linter's output for a file without accepted entries, or None."""
     status, out = run(lint, [path, '--accepted', os.devnull])
     have = [(int(line), int(column), entry) for line, column, _, entry in places(path, out)]
     if not want and (status, out) == (0, 'lint: nothing to look at\n'):
@@ -415,7 +415,7 @@ def looked(name, path, want):
 
 
 def places(path, out):
-    """The line, the column, the words and the entry, without its view or model, of each place that is shown."""
+    """Returns the line, the column, the words and the entry, without its view or model, of each place that is shown."""
     return re.findall(r'(?m)^%s:(\d+):(\d+): look at this, in the [^:]*: (.*)\n(?:    .*\n)*?'
                       r'    accepted as: [^:]*: (.*)$' % re.escape(path), out)
 
@@ -431,7 +431,8 @@ def of_texts(folder):
 
 
 def of_whole_examples():
-    """The examples have nothing to look at that isn't accepted, and the larger ones something that is."""
+    """Checks that all that the linter reports about the examples is accepted, and that it reports something about the
+    larger ones."""
     for path in (*SMALL, *LARGE):
         status, out = run(lint, [path])
         right = status == 0 and re.fullmatch(r'lint: nothing to look at(, [1-9]\d* accepted)%s\n' % (
@@ -440,7 +441,7 @@ def of_whole_examples():
 
 
 def of_folder():
-    """An application in a folder, where Jinja2 puts it together."""
+    """Checks an application in a folder, if Jinja2 is installed to put it together."""
     status, out = run(lint, ['checks/linted/hall', '--accepted', os.devnull])
     have = re.findall(r'(?m)^checks/linted/hall/(\S+?:\d+:\d+): look at this.*\n(?:    .*\n)*?'
                       r'    accepted as: (.*)$', out)
@@ -450,7 +451,7 @@ def of_folder():
 
 
 def of_accepted(folder):
-    """What is said of an application where something was accepted."""
+    """Checks what is said about an application with accepted entries."""
     path = os.path.join(folder, 'fire.app')
     with open(os.path.join(TOP, 'checks', 'linted', 'fire.app'), encoding='utf-8') as file:
         text = file.read()
@@ -471,7 +472,7 @@ def of_accepted(folder):
 
 
 def of_refusals(folder):
-    """What isn't an application is refused, and the words of the command are told."""
+    """Checks that what isn't an application is refused, and that the command explains its arguments."""
     path = os.path.join(folder, 'no.app')
     for text in ('', '(app (model 5 (fields)))', '(app (view get "/" (params) (template "{{ x")))',
                  '(view get "/" (params))', '(app (view get "/" (params)) (model A (fields)))',
@@ -487,7 +488,7 @@ def of_refusals(folder):
 
 
 def of_commands():
-    """The exit status of the command itself."""
+    """Checks the exit status of the command itself."""
     for word, want in (('checks/linted/share.app', 1), ('examples/hello.app', 0), ('examples/none.app', 2)):
         status = subprocess.run([sys.executable, 'tools/lint.py', word], cwd=TOP, stdout=subprocess.DEVNULL,
                                 check=False).returncode
@@ -495,7 +496,7 @@ def of_commands():
 
 
 def of_all_cases():
-    """Of each application in checks/cases, served or not: it is read, or said to be none."""
+    """Checks that each application in checks/cases is read, or is said to be no application that is served."""
     for path in sorted(glob.glob(os.path.join(TOP, 'checks', 'cases', '*.case'))):
         with open(path, encoding='utf-8', newline='') as file:
             texts = re.findall(r'(?ms)^== file [^\n]*\n(\(app.*?)(?=^== )', file.read())
@@ -516,7 +517,7 @@ def of_audits():
 
 
 def spelled(text):
-    """What is said, with the names that stand for what is said more than once."""
+    """Replaces the names UNSEEN, SEEN, ENTRY and FALSE by the texts that they stand for."""
     for name, words in (('UNSEEN', UNSEEN), ('SEEN', SEEN), ('ENTRY', ENTRY), ('FALSE', FALSE)):
         text = text.replace(name, words)
     return text
@@ -529,7 +530,7 @@ def put(folder, files):
 
 
 def stored(path, rows):
-    """A store of these rows: each a record, and the labels under which it is there."""
+    """Makes a store of these rows. Each row is a record with the labels under which it is there."""
     with contextlib.closing(sqlite3.connect(path)) as database, database:
         database.execute('CREATE TABLE rec(model INTEGER, jid BLOB, alt INTEGER, jvars BLOB, body BLOB)')
         for number, (record, guard) in enumerate(rows):
@@ -539,7 +540,8 @@ def stored(path, rows):
 
 
 def of_reasons():
-    """What is said of the lines of `why` with the store that they are of, without it, and with one that isn't there."""
+    """Checks what is said about the lines of `why`: with their store, without it, and with a store that doesn't
+    exist."""
     for name, (app, _, _, lines, rows, want) in REASONS.items():
         own = sum(line.split()[:4] == line.split()[5:] for line in lines.splitlines())
         either = '\n    by its own policy, or because its record is not there (--db says which): app:'
@@ -555,7 +557,7 @@ def of_reasons():
 
 
 def of_program(program):
-    """The lines and the store that the program makes of the same requests, and what is said of them."""
+    """Checks that from the same requests the program makes the same lines, and a store about which the same is said."""
     for name, (app, events, viewer, lines, _, want) in REASONS.items():
         with tempfile.TemporaryDirectory() as folder:
             put(folder, {'app': app, 'events': events})

@@ -1,7 +1,7 @@
 #!/usr/bin/env python3
-"""Looks at stores by tools/live.py, and compares with what was written down here by hand, and with what the program dumps
-under the labels that it says a viewer is shown. The store of the first part is served meanwhile. Words: the program.
-Prints each that is wrong, and ends with a count."""
+"""Reads stores with tools/live.py. Compares the results with expectations written by hand, and with the program's dumps
+under the labels that it says a viewer is shown. The store of the first part is served meanwhile. Argument: the program.
+Prints each failure, then a count."""
 import contextlib
 import os
 import re
@@ -88,14 +88,14 @@ TABLES = {
 
 
 def look(folder, *words, store='store.db'):
-    """The status, the output and what standard error says of a look."""
+    """Runs a command of live.py. Returns its status, its output and its standard error."""
     done = subprocess.run([sys.executable, TOOL, *words, '--db', store, '--program', PROGRAM], cwd=folder,
                           stdin=subprocess.DEVNULL, stdout=subprocess.PIPE, stderr=subprocess.PIPE, check=False)
     return done.returncode, done.stdout.decode(), done.stderr.decode()
 
 
 def tables_of(path):
-    """The tables of a file of SQLite: for each its columns, and its rows."""
+    """Returns the tables of an SQLite file: for each its columns and its rows."""
     with contextlib.closing(sqlite3.connect(path)) as database:
         found = {}
         for name, in database.execute("SELECT name FROM sqlite_master WHERE type = 'table'").fetchall():
@@ -109,7 +109,7 @@ def expect(name, have, want):
 
 
 def looks(folder):
-    """What the commands say of the small store."""
+    """Checks what the commands say about the small store."""
     yield expect('as Bob', look(folder, 'as', 'app', '8192'), (0, AS_BOB, ''))
     yield expect('as nobody', look(folder, 'as', 'app', '-'), (0, 'nobody sees 2 records\n' + AS_NOBODY, ''))
     yield expect('why, for Bob', look(folder, 'why', 'app', '8192'), (0, WHY_BOB, ''))
@@ -124,7 +124,7 @@ def looks(folder):
 
 
 def refused(folder):
-    """What is refused, and leaves no file."""
+    """Checks what is refused, and that a refusal leaves no file."""
     yield expect('a file that is there', look(folder, 'export', 'app', '-', 'out.db'),
                  (1, '', 'live: out.db is there already\n'))
     status, out, told = look(folder, 'export', 'app', '-', 'none.out', store='none.db')
@@ -157,7 +157,8 @@ def replayed(folder, app, events):
 
 
 def dumped(folder, viewer):
-    """What the program dumps under the labels that the viewer is shown: for each model the cells of its records."""
+    """Returns what the program dumps under the labels that the viewer is shown: for each model the cells of its
+    records."""
     labels = run(folder, 'why', 'app', viewer, '--db', 'store.db').split('\n')[0].partition(' ')[2]
     found = {}
     for line in run(folder, 'dump', 'app', labels, '--db', 'store.db').split('\n')[:-2]:
@@ -168,7 +169,7 @@ def dumped(folder, viewer):
 
 
 def plain(word):
-    """A cell of a dump as the file of an export has it."""
+    """Returns a cell of a dump as an exported file has it."""
     if word.startswith('"'):
         return walk.plain(word[1:-1].encode()).decode()
     if word in ('none', 'true', 'false'):
@@ -177,7 +178,8 @@ def plain(word):
 
 
 def same_as_dumped(folder, app, events):
-    """A store of an example, as nobody and as everybody that asked: an export has what the program dumps."""
+    """Checks that an export of an example's store has what the program dumps, as nobody and as each viewer of its
+    requests."""
     texts = []
     for name in app, events:
         with open(os.path.join(TOP, 'examples', name), encoding='utf-8') as file:

@@ -1,10 +1,12 @@
 #!/usr/bin/env python3
-"""Logs in and out of the calendar on the pages of Apache, with the files of deploy/: wrong passwords, a login that ran
-out, forged cookies, forms of other sites, accounts that are disabled or have another password, and the site's own pages
-for errors. The same is walked in a headless Chromium, which also shows the pages of accounts as a phone and a desktop
-do. Words: the program. With --pictures FOLDER it writes a picture of each page of that walk there. Prints each case
-that fails, and ends with a count. Where Apache or what it needs isn't installed, nothing is done, and that is said. The
-walk is left out where Chromium isn't installed."""
+"""Logs in to the calendar and out of it through Apache, with the files of deploy/. Covers wrong passwords, a login that
+has expired, forged cookies, forms of other sites, accounts that are disabled or get another password, and the site's
+own error pages. A walk in a headless Chromium does the same, and also checks the account pages on the screens of a
+phone and of a desktop.
+
+Argument: the program. With --pictures FOLDER it writes a picture of each page of that walk there. Prints each failed
+case, then a count. If Apache or something that it needs isn't installed, the check is skipped and says so. If only
+Chromium isn't installed, only the walk is skipped."""
 import argparse
 import contextlib
 import os
@@ -28,7 +30,7 @@ from support.serving import HOST, free_port, is_listening                   # no
 
 AVAILABLE = '/etc/apache2/mods-available'
 SQLITE = 'apr_dbd_sqlite3'
-# What Debian's Apache has without being asked.
+# The modules that Debian's Apache loads by default.
 BASE = ('mpm_event', 'authn_core', 'authn_file', 'authz_core', 'authz_user', 'mime', 'alias', 'env', 'reqtimeout',
         'setenvif')
 MAIN = '''ServerRoot %(folder)s
@@ -45,12 +47,12 @@ TypesConfig /etc/mime.types
 </Directory>
 Include %(folder)s/site.conf
 '''
-# How docs/DEPLOYING.md makes the file of logins.
+# The statement by which docs/DEPLOYING.md makes the file of logins.
 TABLE = re.search(r'sqlite3 /var/lib/jac-logins/calendar.db "(.*)"', read(TOP, 'docs', 'DEPLOYING.md'))[1]
 
 
 def loaded(text):
-    """The lines that load the modules which the site asks for, and those that they need."""
+    """Returns the lines that load the modules which the site asks for, and the modules that these need."""
     lines, left = [], [*BASE, *re.search(r'(?m)^# a2enmod (.*)$', text)[1].split()]
     seen = set()
 
@@ -110,7 +112,7 @@ class Site(Client):
         return self.form('/account/in', fields, [('Referer', page), ('Origin', self.own), *further])
 
     def logged_in(self, name, password=None):
-        """The cookie of a login."""
+        """Logs in, and returns the cookie."""
         return ('Cookie', cookie_of(self.log_in(name, password)))
 
     def page(self, *headers, path='/'):
@@ -126,7 +128,7 @@ def sent_to(answer):
 
 
 def who(answer):
-    """The status, and whom the calendar's page greets."""
+    """Returns the status, and whom the calendar's page greets."""
     match = re.search(r'You are (\w+)|Nobody is logged in', answer[2])
     return answer[0], match and match[0]
 
@@ -135,7 +137,7 @@ ASKED = 302, '/account/login.html?/'
 
 
 def logins(site):
-    """Right and wrong names and passwords, and the page that comes afterwards."""
+    """Checks right and wrong names and passwords, and the page that follows."""
     yield expect('a page without a login', sent_to(site.page(path='/event/5')), (302, '/account/login.html?/event/5'))
     asked = '/event/5?a=b&c=%2F%0d%0aX:'
     yield expect('a page with a query', sent_to(site.page(path=asked)), (302, '/account/login.html?' + asked))
@@ -157,7 +159,7 @@ def logins(site):
 
 
 def people(site):
-    """Two accounts with their own view of a page, one that is nobody, and cookies that are forged."""
+    """Checks two accounts with their own views of a page, an account that is nobody, and forged cookies."""
     ann, bob, eve = (site.logged_in(name) for name in ('ann', 'bob', 'eve'))
     own = ('Origin', site.own)
     yield expect('it is set up', site.form('/setup', {}, [ann, own])[0], 303)
@@ -191,7 +193,7 @@ def people(site):
 
 PLACE = 'location.pathname + location.search'
 FOCUS = 'document.activeElement.name'
-# How wide the window is, whether the main part stands within so many pixels, and what the style sheet says of it.
+# The width of the window, whether the main part is within %d pixels, and what the style sheet says about its border.
 LOOKS = '''(() => { const main = document.querySelector("main"), box = main.getBoundingClientRect();
   return `${innerWidth} ${box.left >= 0 && box.right <= %d} ${getComputedStyle(main).borderRadius}`; })()'''
 TITLE = 'Surprise party'
@@ -199,7 +201,7 @@ NO_EVENT = [TITLE, 'You are']
 
 
 def arrives(name, page, shown, place, *texts, but=()):
-    """The browser is at this place, whose page shows these texts and none of those."""
+    """Checks that the browser is at this place, and that its page shows `texts` and none of `but`."""
     return browser.shows(name, shown, *texts, but=but) or expect(name, page.run(PLACE), place)
 
 
@@ -208,7 +210,7 @@ def press_key(page, key, **params):
 
 
 def gives(page, name, password):
-    """Types a login by the keyboard alone: the page comes with the focus on the field for the name."""
+    """Logs in with the keyboard alone. When the page comes, the focus is on the field for the name."""
     if not until(lambda: page.run(FOCUS) == 'httpd_username', 5):
         raise browser.Broken('the field for the name has no focus')
     page.call('Input.insertText', text=name)
@@ -218,13 +220,13 @@ def gives(page, name, password):
 
 
 def leaves(page):
-    """Presses the button to log out, on the page that has it."""
+    """Presses the button for logging out, on the page that has it."""
     page.go('/account/logout.html')
     return page.press('/account/out', 'Log out')
 
 
 def ann_comes(page):
-    """Ann is asked who she is, mistypes her password, arrives at the page that she asked for, and adds an event."""
+    """Ann has to log in, mistypes her password, arrives at the page that she requested, and adds an event."""
     asked, wrong = '/account/login.html?/people', 'The name or the password was wrong.'
     yield arrives('a page without a login', page, page.go('/people'), asked, 'Log in', 'Name', 'Password',
                   but=[wrong, 'You are', 'Cleo'])
@@ -237,7 +239,7 @@ def ann_comes(page):
 
 
 def walked(page):
-    """Ann comes and goes, Bob comes to the page of her event, and the pages of accounts are looked at."""
+    """Ann logs in and out, Bob logs in and gets the page of her event, and the account pages are checked."""
     yield from ann_comes(page)
     event = page.run(PLACE)
     yield None if re.fullmatch(r'/event/\d+', event) else 'a new event: at %s' % event
@@ -255,7 +257,7 @@ def walked(page):
 
 
 def widths(page):
-    """The pages of accounts are no wider than the screen, and styled under the policy of content."""
+    """Checks that the account pages are no wider than the screen, and are styled under the Content-Security-Policy."""
     for width in (browser.PHONE, browser.DESKTOP):
         page.screen(width)
         for name in ('login', 'wrong', 'logout'):
@@ -266,19 +268,20 @@ def widths(page):
 
 
 def in_chromium(site):
-    """The walk, over a calendar that is set up. No browser knows the certificate, which is made here."""
+    """Makes the walk over a calendar that is set up. The browser ignores that it doesn't know the certificate, which is
+    made here."""
     found = installed.find(*browser.NAMES)
     if not found:
         yield Skipped('the walk in a browser: %s' % installed.told(browser.NAMES))
         return
-    # what the browser still writes as it ends may be left behind
+    # a browser that ends may still write files, so leftover files are ignored
     with tempfile.TemporaryDirectory(ignore_cleanup_errors=True) as folder:
         yield from browser.walk(found, folder, 'in a browser', walked, lambda: contextlib.nullcontext(site),
                                 '--ignore-certificate-errors')
 
 
 def other_sites(site):
-    """Forms of other sites, to the calendar, to log in and to log out."""
+    """Checks forms of other sites that are sent to the calendar, to the login and to the logout."""
     ann = site.logged_in('ann')
     for further, want in (([('Sec-Fetch-Site', 'cross-site')], 403), ([('Sec-Fetch-Site', 'same-site')], 403),
                           ([('Origin', 'https://elsewhere.example')], 403), ([('Origin', 'null')], 403),
@@ -298,7 +301,7 @@ def other_sites(site):
 
 
 def ends(site):
-    """Whoever logs out, is disabled or has another password is logged in no longer, at once."""
+    """Checks that logging out, being disabled and getting another password each end a login at once."""
     own = ('Origin', site.own)
     ann, second, bob = site.logged_in('ann'), site.logged_in('ann'), site.logged_in('bob')
     answer = site.form('/account/out', {}, [ann, own])
@@ -325,7 +328,7 @@ def ends(site):
 
 
 def headers_of(site):
-    """What may be kept, and by what headers."""
+    """Checks what may be cached, and the headers of every page."""
     ann = site.logged_in('ann')
     _, headers, _ = site.page(ann)
     have = headers.get_all('Cache-Control'), headers.get_all('Vary'), headers['Content-Type']
@@ -345,7 +348,7 @@ def headers_of(site):
 
 
 def error_pages(site, jac):
-    """Pages of the site in place of errors; a 404 is the program's."""
+    """Checks the site's own error pages. A 404 comes from the program."""
     ann, own = site.logged_in('ann'), ('Origin', site.own)
     answer = site.form('/people', {'name': 'x' * 70000}, [ann, own])
     yield expect('a form too large', (answer[0], 'Too much at once' in answer[2]), (413, True))
@@ -362,7 +365,7 @@ def error_pages(site, jac):
 
 
 def beside_slow_form(site, slow, other):
-    """How long the slowest of some pages took beside a form of which a part is lacking, and what came of the form."""
+    """Returns how long the slowest of some pages took while a part of a form was missing, and the reply to the form."""
     line = site.trusted.wrap_socket(socket.create_connection((HOST, site.port)), server_hostname=HOST_NAME)
     with contextlib.closing(line):
         head = ('POST /people HTTP/1.1', 'Host: ' + site.host, 'Cookie: ' + slow[1], 'Origin: ' + site.own,
@@ -380,8 +383,8 @@ def beside_slow_form(site, slow, other):
 
 
 def slow_forms(site):
-    """A form that comes slowly holds up nobody. It is tried again where other work does: a page that is held up by the
-    form takes 2.7 seconds each time, and the form is cut."""
+    """Checks that a form that arrives slowly delays nobody. Since the machine may be busy, it is tried up to three
+    times. A page that the form really delays takes 2.7 seconds each time, and the form is cut off."""
     ann, bob = site.logged_in('ann'), site.logged_in('bob')
     tries = [beside_slow_form(site, ann, bob)]
     while len(tries) < 3 and (tries[-1][0] > 1 or tries[-1][1] != b'HTTP/1.1 303'):
@@ -391,14 +394,14 @@ def slow_forms(site):
 
 
 def documented(site):
-    """The page asks for the modules that the site's file names, and removes what ran out by jac-logins.service."""
+    """Checks that docs/DEPLOYING.md enables the modules that the site's file names."""
     page = read(TOP, 'docs', 'DEPLOYING.md')
     asked = re.search(r'(?m)^# (a2enmod .*)$', read(DEPLOY, 'apache.conf'))[1]
     yield expect('the modules on the page', '    %s\n' % asked in page, True)
 
 
 def runs_out(site):
-    """A login that is over, and its row, which the timer's command removes."""
+    """Checks that a login expires, and that the timer's command removes its row."""
     ann = site.logged_in('ann')
     yield expect('a new login', who(site.page(ann))[0], 200)
     time.sleep(7)
@@ -435,7 +438,7 @@ def results_of(program, age, parts):
 
 
 def lacking():
-    """What isn't installed."""
+    """Returns the names of what isn't installed."""
     names = [name for name in ('apache2', 'openssl', 'htpasswd') if not shutil.which(name)]
     if not names and not any(SQLITE in file for folder, _, files in os.walk('/usr/lib') for file in files
                              if 'apr-util' in folder):

@@ -1,16 +1,16 @@
 #!/usr/bin/env python3
-"""Looks at every page of the four large examples: of each path, for each person and for nobody, after the walk of the
-example, with a long word and several lines stored; and at every page by which a form is refused.
+"""Requests every page of the four large examples: each path, as each person and as nobody, after the example's walk,
+with a long word and several lines stored. Also requests every page that refuses a form.
 
-Each page has to be valid HTML, by html5lib and by tidy, have a title that no other path has, a language, a charset and
-a viewport, one main part with one heading, a label for each field, a name for each button and link that tells it from
-the others, a way back to the first page and, for nobody, a way in. It has no script and nothing from elsewhere. In
-Chromium, under the policy of content below, the largest page of each kind is no wider than the screen of a phone, breaks
-no short word there, and its style sheet and a form work.
+Each page must be valid HTML, by html5lib and by tidy. It must have a title that no other path has, a language, a
+charset, a viewport, one main part with one heading, a label for each field, a name for each button and link that
+distinguishes it from the others, a way back to the first page and, for nobody, a way to log in. It may have no script
+and nothing from other sites. In Chromium, under the Content-Security-Policy below, the largest page of each kind must
+be no wider than the screen of a phone and break no short word there. Its style sheet and a form must work.
 
-Words: the program. With --pictures FOLDER it writes a picture of each of these pages there, as a desktop and as a phone
-show it. What needs Debian's python3-html5lib, tidy, chromium or a font is skipped where that isn't installed. Prints each case
-that fails, and ends with a count."""
+Argument: the program. With --pictures FOLDER it writes pictures of these pages there, as a desktop and as a phone show
+them. A part that needs Debian's python3-html5lib, tidy, chromium or a font is skipped if that isn't installed. Prints
+each failed case, then a count."""
 import argparse
 import base64
 import collections
@@ -34,7 +34,7 @@ from browser import DESKTOP, PHONE, WIDTH                                   # no
 from support.serving import HOST, served                                    # noqa: E402
 
 TOP = proved.TOP
-# a busy machine may start a browser late
+# a browser may start late on a busy machine
 browser.WAIT = 120
 sys.path.insert(0, os.path.join(TOP, 'tools'))
 import assemble                                                             # noqa: E402
@@ -43,9 +43,9 @@ POLICY = "default-src 'none'; style-src 'self' 'unsafe-inline'; img-src 'self' d
     "base-uri 'none'; frame-ancestors 'none'"
 LONG = 'Donaudampfschifffahrtsgesellschaftskapitaen' * 4
 LINES = 'The first line.\nThe second one.'
-# paths that no link leads to: what isn't there, and what is put out whole
+# paths that no link leads to: an export, the login, and pages that don't exist
 ANYWHERE = '/export', '/login', '/nothing', '/nothing/at', '/nothing/at/all'
-# each example, what is stored besides its walk, and records that aren't there
+# each example, what is stored in addition to its walk, and paths of records that don't exist
 SITES = {
     'calendar': ([(4096, '/events', {'title': LONG, 'place': LONG, 'day': '2027-05-05', 'open': '1'})], ['/event/1']),
     'conference': ([(4160, '/papers', {'title': LONG, 'abstract': LINES})], ['/paper/1']),
@@ -67,7 +67,7 @@ class Element:
         self.name, self.attributes, self.parent, self.parts = name, attributes, parent, []
 
     def all(self, *names):
-        """The elements below with one of these names, in order."""
+        """Yields the elements below that have one of these names, or all, in order."""
         for part in self.parts:
             if isinstance(part, Element):
                 if part.name in names or not names:
@@ -84,12 +84,12 @@ class Element:
         return self.parent is not None and (self.parent.name == name or self.parent.within(name))
 
     def label(self):
-        """What a reader of screens calls it."""
+        """Returns what a screen reader calls the element."""
         return self.attributes.get('aria-label') or self.text()
 
 
 class Tree(html.parser.HTMLParser):
-    """The elements of a page that is valid."""
+    """The elements of a valid page."""
 
     def __init__(self, text):
         super().__init__()
@@ -109,7 +109,7 @@ class Tree(html.parser.HTMLParser):
         self.open.parts.append(data)
 
 
-# What is asked of a page. Each gives what is wrong.
+# What is required of a page. Each function yields what is wrong.
 
 def of_the_head(text, root):
     language = next((element.attributes.get('lang') for element in root.all('html')), None)
@@ -159,7 +159,8 @@ def of_the_fields(root):
 
 
 def of_names(root):
-    """Links with one name lead to one place, and buttons with one name do one thing."""
+    """Checks that links with the same name lead to the same place, and that buttons with the same name are in the same
+    form."""
     links, buttons = {}, {}
     for link in root.all('a'):
         if not link.label():
@@ -183,7 +184,7 @@ def of_ways(root, viewer):
 
 
 def of_content(text, root):
-    """What the policy of content would not allow."""
+    """Yields what the Content-Security-Policy would not allow."""
     for element in root.all():
         if element.name in ('script', 'iframe', 'object', 'embed', 'base'):
             yield 'an element %s' % element.name
@@ -218,13 +219,13 @@ def tidy_faults(text):
     done = subprocess.run(['tidy', '-q', '-e', '-utf8'], input=text.encode(), stdout=subprocess.PIPE,
                           stderr=subprocess.STDOUT, check=False, timeout=60)
     lines = done.stdout.decode('utf-8', 'replace').splitlines()
-    # this tidy is older than the attribute
+    # this version of tidy is older than the attribute
     return ['tidy, ' + line for line in lines if '"aria-current"' not in line]
 
 
 def fetched(port, method, path, body, headers):
-    """The reply to a request. A connection on which the first byte came late, as on a busy machine, is closed, and the
-    request is sent again."""
+    """Returns the reply to a request. On a busy machine the first byte may come so late that the program closes the
+    connection. Then the request is sent again."""
     for _ in range(50):
         with contextlib.closing(http.client.HTTPConnection(HOST, port, timeout=60)) as line:
             try:
@@ -239,7 +240,7 @@ def fetched(port, method, path, body, headers):
 # The pages of a site.
 
 class Site:
-    """An example that is served, whose people are asked for by number."""
+    """An example that is served. Requests name its people by number."""
 
     def __init__(self, name, run, tokens):
         self.name, self.run, self.tokens = name, run, tokens
@@ -254,8 +255,8 @@ class Site:
         return Reply(answer.status, answer.getheader('Location'), read.decode())
 
     def walk(self, events, besides):
-        """The requests of the walk that stand on lines of their own, and those besides: last, or before decisions are
-        published, after which no paper is taken."""
+        """Sends the requests of the walk that are on lines of their own, and those of `besides`. The latter come last,
+        or before the decisions are published, since no paper is taken after that."""
         asks = ASK.findall(events)
         place = next((at for at, ask in enumerate(asks) if ask[2] == '/publish'), len(asks))
         for viewer, method, target, body in asks[:place]:
@@ -268,7 +269,7 @@ class Site:
             self.ask(None if viewer == '-' else int(viewer), method, target, body)
 
     def crawl(self, viewer, paths):
-        """Each page that links lead to from these paths."""
+        """Requests each page that links lead to from these paths."""
         left = list(paths)
         while left:
             path = left.pop()
@@ -279,12 +280,13 @@ class Site:
                          if link.attributes.get('href', '').startswith('/')]
 
     def actions(self):
-        """Where the forms of all pages lead to."""
+        """Returns the paths that the forms of all pages are sent to."""
         return sorted({form.attributes['action'] for reply in self.pages.values()
                        for form in Tree(reply.body).root.all('form')})
 
     def refusals(self):
-        """What each form is answered with that was not taken: empty and with what is too much, of nobody and of all."""
+        """Yields the replies to refused forms. Each form is sent empty and with wrong values, as nobody and as each
+        person."""
         for action in self.actions():
             for viewer in [None, *self.tokens]:
                 for fields in {}, {'score': '-7', 'grade': '7777777', 'points': '-7', 'title': ' ', 'words': 'A <b>'}:
@@ -301,7 +303,7 @@ def sessions(folder):
 
 @contextlib.contextmanager
 def site_of(program, name):
-    """The example after its walk. The second version of the courses goes on with the records of the first."""
+    """Serves the example after its walk. The second version of courses continues with the records of the first."""
     first = os.path.join(TOP, 'examples', name.partition('/')[0])
     besides, lacking = SITES[name]
     with tempfile.TemporaryDirectory() as room:
@@ -323,7 +325,7 @@ def site_of(program, name):
 
 
 def titles(site):
-    """Paths that aren't of one kind have titles of their own."""
+    """Checks that paths of different kinds have different titles."""
     kinds = {}
     for (_, path), reply in site.pages.items():
         title = Tree(reply.body).root.first('title')
@@ -336,7 +338,7 @@ def titles(site):
 
 
 def of_pages(site, tools):
-    """A result for each page that is told from the others."""
+    """Checks each page that differs from those before it."""
     pages = [(viewer, 'GET ' + path, reply) for (viewer, path), reply in site.pages.items()] + list(site.refusals())
     pages += [(None, 'GET / of an empty site', site.empty)] if site.empty else []
     seen = set()
@@ -353,7 +355,7 @@ def of_pages(site, tools):
 # In a browser.
 
 class Front(http.server.BaseHTTPRequestHandler):
-    """Hands each request on, and adds the policy of content to its reply."""
+    """Forwards each request, and adds the Content-Security-Policy to the reply."""
     port = None
 
     def handed_on(self):
@@ -395,7 +397,7 @@ class Address:
 
 
 STYLED = 'getComputedStyle(document.querySelector("header")).display'
-# the short words that are on more than one line
+# the short words that are broken over several lines
 BROKEN = '''(() => { const found = [], texts = document.createTreeWalker(document.body, NodeFilter.SHOW_TEXT);
   for (let text = texts.nextNode(); text; text = texts.nextNode()) {
     if (text.parentElement.closest(".away")) continue;
@@ -410,7 +412,7 @@ BROKEN = '''(() => { const found = [], texts = document.createTreeWalker(documen
 
 
 class Watched(browser.Browser):
-    """A browser of which is kept what it says that it doesn't allow."""
+    """A browser that records the security violations that it reports."""
 
     def __init__(self, program, folder):
         self.said = []
@@ -425,7 +427,7 @@ class Watched(browser.Browser):
 
 
 def refusals_of_the_browser(page):
-    """What the browser said since it was asked last that it doesn't allow."""
+    """Returns the security violations that the browser has reported since the last call."""
     page.run('1')
     said, page.browser.said = page.browser.said, []
     return said
@@ -444,7 +446,7 @@ def kind_of(path):
 
 
 def largest(site):
-    """Of the pages of each kind the one that has most, and the first page as nobody sees it."""
+    """Returns the largest page of each kind, and the first page as nobody sees it."""
     found = {}
     for asked, reply in site.pages.items():
         best = found.get(kind_of(asked[1]))
@@ -454,7 +456,7 @@ def largest(site):
 
 
 def looked_at(site, page, pictures):
-    """A result for the largest page of each kind in the browser."""
+    """Checks the largest page of each kind in the browser."""
     for viewer, path in largest(site):
         page.be(site.tokens.get(viewer))
         name = '%s, %s as %s' % (site.name, path, site.tokens.get(viewer, 'nobody'))
@@ -474,7 +476,7 @@ def looked_at(site, page, pictures):
 
 
 def sent_by_a_browser(site, page):
-    """A form under the policy of content, and one that a browser doesn't send as it lacks what is required."""
+    """Checks that a form can be sent under the Content-Security-Policy."""
     if site.name == 'calendar':
         page.be('ann')
         page.go('/people')
@@ -494,7 +496,7 @@ def in_chromium(program, site, pictures):
 
 
 def installed(quick):
-    """The tools that are there, Chromium, and the names of those that aren't."""
+    """Returns the tools that are installed, Chromium if it is, and the names of those that aren't."""
     tools, lacking = [], []
     try:
         html5lib_faults('<!DOCTYPE html><title>a</title>')
@@ -514,7 +516,8 @@ def installed(quick):
 
 
 def has_font():
-    """Whether fontconfig finds a font: without one Chromium shows no text, so that its pages have another width."""
+    """Returns whether fontconfig finds a font. Without a font Chromium shows no text, so its pages have another
+    width."""
     lister = shutil.which('fc-list')
     return lister is None or bool(subprocess.run([lister], capture_output=True, check=False).stdout.strip())
 
@@ -523,8 +526,8 @@ def main():
     parser = argparse.ArgumentParser(description=__doc__, formatter_class=argparse.RawDescriptionHelpFormatter)
     parser.add_argument('program', nargs='?', default=os.path.join(TOP, 'jac'), help='./jac, or a program')
     parser.add_argument('--pictures', metavar='FOLDER', help='a folder for pictures of the pages')
-    parser.add_argument('--quick', action='store_true', help='leave out what Chromium says')
-    parser.add_argument('--site', choices=SITES, help='one of the sites alone')
+    parser.add_argument('--quick', action='store_true', help='skip what needs Chromium')
+    parser.add_argument('--site', choices=SITES, help='check only this site')
     words = parser.parse_args()
     program = proved.program(words.program)
     tools, chromium, lacking = installed(words.quick)
@@ -533,7 +536,7 @@ def main():
         with site_of(program, name) as site:
             if chromium:
                 results += in_chromium(chromium, site, words.pictures)
-            # forms that are taken after all change records, so this is last
+            # all forms that are accepted change records, so this comes last
             results += of_pages(site, tools)
     for wrong in filter(None, results):
         print('FAILED ' + wrong)

@@ -1,14 +1,15 @@
 #!/usr/bin/env python3
-"""Runs the built program while one of its allocations fails, or one and all behind it. A run ends with status 0 or 7;
-each reply is 500, or that of an undisturbed run of the requests that weren't answered with 500; the audit tells the
-same; and a store in a file holds what the answered requests left, no more and no less. A check of an application, a
-dump and a `why` end as an undisturbed one does, or with status 7, and so does an upgrade, which then left the old store.
-Words: the program, and for how many seconds allocations are
-taken, 90 if not said. They are taken spread over the run, each once, as long as there is time. Prints each case that
-fails, and ends with a count. Where there is no C compiler nothing is done, and that is said
-(installed.py).
+"""Runs the built program while one of its allocations fails, or one and all later ones. A run must end with status 0 or
+7. Each reply must be 500, or that of an undisturbed run of only the requests that weren't answered with 500. The audit
+must agree with the replies. A store in a file must hold exactly what the answered requests left. A `check`, a `dump`
+and a `why` must end as undisturbed ones do, or with status 7. So must an upgrade, and with status 7 it must leave the
+old store.
 
-A library that is loaded before the program counts its allocations, and fails those that it is told to."""
+A library that is loaded before the program counts its allocations, and makes the chosen ones fail. They are chosen from
+all over the run, each once, as long as there is time.
+
+Arguments: the program, and for how many seconds allocations are tried (90 by default). Prints each failed case, then a
+count. If there is no C compiler, the check is skipped and says so (installed.py)."""
 import collections
 import contextlib
 import glob
@@ -25,10 +26,10 @@ from support import installed
 from support import proved
 
 WORDS = proved.words(seconds={'metavar': 'SECONDS', 'nargs': '?', 'type': float, 'default': 90,
-                              'help': 'how long it goes on (%(default)s)'})
+                              'help': 'for how many seconds allocations are tried (%(default)s)'})
 PROGRAM, SECONDS = proved.binary(WORDS.program), WORDS.seconds
 COMPILERS = 'cc', 'gcc', 'clang'
-SHOWN = 20      # failures that are printed
+SHOWN = 20      # most failures that are printed
 LIBRARY = r'''
 #include <errno.h>
 #include <fcntl.h>
@@ -98,14 +99,14 @@ def ask(viewer, method, target, body=''):
 
 
 def sent(number, token, method, target, body=''):
-    """A request on a connection of its own, in two pieces."""
+    """Returns the lines of a request on a connection of its own, in two pieces."""
     head = r'%s %s HTTP/1.1\r\nHost: a\r\nCookie: session=%s\r\n' % (method, target, token)
     if method == 'POST':
         head += r'Content-Type: application/x-www-form-urlencoded\r\nContent-Length: %d\r\n' % len(body)
     return ['open %d' % number, 'data %d "%s"' % (number, head), r'data %d "\r\n%s"' % (number, body), 'end %d' % number]
 
 
-# Each is one request, whose lines have no reply but one.
+# Each item is one request. Its lines get exactly one reply.
 REQUESTS = [
     ask('-', 'POST', '/join', 'name=Ann'),
     ask('-', 'POST', '/join', 'name=Bob'),
@@ -124,14 +125,14 @@ REQUESTS = [
 ]
 
 
-# What is asked of a store by a next run, which changes nothing.
+# The requests of a next run, which read the store and change nothing.
 AFTERWARDS = [ask('4096', 'GET', '/list'), ask('8192', 'GET', '/list')]
 FAILED = re.compile(rb'reply 500 |sent \d+ "HTTP/1.1 500 ')
 OUT_OF_MEMORY = 7, b'memory'
 
 
 class Run:
-    """What a replay left: its status, its last line where that isn't 0, its replies, its audit and its store."""
+    """What a replay left: its status, its last line if the status isn't 0, its replies, its audit and its store."""
 
     def __init__(self, status, out, audit, store, count):
         self.status, self.audit, self.store, self.count = status, audit.splitlines(), store, count
@@ -140,7 +141,7 @@ class Run:
         self.replies = [line for line in lines if not line.startswith(b'closed ')]
 
     def refused(self):
-        """The places of the replies that are 500."""
+        """Returns the places of the replies that are 500."""
         return [place for place, line in enumerate(self.replies) if FAILED.match(line)]
 
 
@@ -165,14 +166,15 @@ class Runs:
             return file.read()
 
     def program(self, words, first=0, last=0):
-        """The status and the output of a run in which the allocations from the first to the last fail, and their count."""
+        """Runs the program while the allocations from the first to the last fail. Returns the status, the output and
+        the number of allocations."""
         given = dict(os.environ, LD_PRELOAD=self.library, FAIL_FIRST=str(first), FAIL_LAST=str(last), FAIL_COUNT='count')
         done = subprocess.run([PROGRAM] + words, cwd=self.folder, env=given, stdin=subprocess.DEVNULL,
                               stdout=subprocess.PIPE, stderr=subprocess.DEVNULL, timeout=60)
         return done.returncode, done.stdout, int(self.read('count') or 0)
 
     def content(self):
-        """The next number and the rows of the store, and what a next run of the program reads of it."""
+        """Returns the next number and the rows of the store, and what a next run of the program reads from it."""
         self.write('events', ''.join(line + '\n' for lines in AFTERWARDS for line in lines))
         read = self.program(['replay', 'app', 'events', '--db', 'store'])[:2]
         return self.stored_rows(), read
@@ -192,14 +194,14 @@ class Runs:
         return Run(status, out, audit, self.content() if self.stored else None, count)
 
     def undisturbed(self, places):
-        """The run of the requests at these places, in which nothing fails."""
+        """Returns the run of only the requests at these places, in which nothing fails."""
         if places not in self.known:
             self.known[places] = self.replay([REQUESTS[place] for place in places])
         return self.known[places]
 
 
 def with_refusals(lines, refused, audit):
-    """The audit of the undisturbed run, where the lines of the refused requests stand between its own."""
+    """Returns the audit of the undisturbed run, with the lines of the refused requests added at their places."""
     lines, merged = list(lines), []
     for place, line in enumerate(audit, 1):
         if place - 1 in refused:
@@ -210,18 +212,18 @@ def with_refusals(lines, refused, audit):
 
 
 def wrong(runs, run):
-    """What is wrong in a disturbed replay, or nothing."""
+    """Returns what is wrong in a disturbed replay, or None."""
     if (run.status, run.last) not in ((0, b''), OUT_OF_MEMORY):
         return 'status %d, %r' % (run.status, run.last)
     if run.status == 0 and len(run.replies) != len(REQUESTS):
-        return 'status 0 behind %d replies' % len(run.replies)
+        return 'status 0 after %d replies' % len(run.replies)
     refused = run.refused()
     answered = tuple(place for place in range(len(run.replies)) if place not in refused)
     plain = runs.undisturbed(answered)
     have = [line for place, line in enumerate(run.replies) if place not in refused]
     if have != plain.replies:
         return 'replies %r, not %r' % next((a, b) for a, b in zip(have, plain.replies) if a != b)
-    # A line of the audit is put before its reply, so that there may be one more.
+    # The audit line is written before its reply, so there may be one line more.
     if len(run.audit) not in (len(run.replies), len(run.replies) + 1):
         return '%d lines of the audit for %d replies' % (len(run.audit), len(run.replies))
     audit = run.audit[:len(run.replies)]
@@ -233,7 +235,8 @@ def wrong(runs, run):
 
 
 def spread(count):
-    """All numbers from 1 to the count, in an order in which each first part is spread over them."""
+    """Yields all numbers from 1 to `count`, in such an order that they are spread over the whole range from the
+    beginning."""
     step, randomness = max(1, count // 64), random.Random(7)
     parts = [list(range(first, min(first + step, count + 1))) for first in range(1, count + 1, step)]
     for part in parts:
@@ -243,13 +246,14 @@ def spread(count):
 
 
 class Tally:
-    """What was tried and went wrong."""
+    """Counts what passed and what failed."""
 
     def __init__(self):
         self.passed = self.failed = 0
 
     def try_all(self, name, count, seconds, one):
-        """Tries one(first, last) for as many allocations as there is time: it gives what is wrong, and a mark."""
+        """Calls one(first, last) for as many allocations as there is time. `one` returns what is wrong, followed by
+        marks, which are counted."""
         deadline, marks, tried = time.monotonic() + seconds, collections.Counter(), 0
         for first in spread(count):
             if time.monotonic() > deadline:
@@ -282,7 +286,7 @@ def replays(tally, name, runs, seconds):
 
 
 def commands(tally, name, runs, words, seconds):
-    """A command that changes nothing ends as it does where nothing fails, or for want of memory."""
+    """Checks that a command that changes nothing ends as it does if nothing fails, or because memory ran out."""
     *plain, count = runs.program(words)
     tally.count(name, None if plain[0] == 0 and count else 'where nothing fails: %r' % plain)
 
@@ -295,7 +299,8 @@ def commands(tally, name, runs, words, seconds):
 
 
 def upgrades(tally, name, runs, seconds):
-    """An upgrade ends as it does where nothing fails, or for want of memory; then the store is the old one."""
+    """Checks that an upgrade ends as it does if nothing fails, or because memory ran out. In that case the store must
+    be the old one."""
     words, store, saved = ['upgrade', 'app', 'next', '--db', 'store'], os.path.join(runs.folder, 'store'), {}
     for file in glob.glob(store + '*'):
         with open(file, 'rb') as handle:
@@ -330,7 +335,7 @@ def upgrades(tally, name, runs, seconds):
 def main():
     installed.need(COMPILERS)
     compiler, tally = installed.find(*COMPILERS), Tally()
-    # Files in memory, where there are some, spare the time that a disk takes.
+    # Files in memory, if they are available, save the time that a disk takes.
     with tempfile.TemporaryDirectory(dir='/dev/shm' if os.access('/dev/shm', os.W_OK) else None) as folder:
         source, library = os.path.join(folder, 'fails.c'), os.path.join(folder, 'fails.so')
         with open(source, 'w') as file:

@@ -1,23 +1,26 @@
 #!/usr/bin/env python3
-"""Turns the definitions of the ordinary interpreter, the policies, the requests and the pages one at a time, and sees that
-a computed example of jac_semantics_examples fails. It is no part of the gate; what the examples come to is proved there.
+"""Mutates the definitions of the ordinary interpreter, the policies, the requests and the pages, one at a time, and
+checks that a computed example of jac_semantics_examples fails. It isn't part of the gate. That crate proves the values
+of the examples.
 
     python3 checks/mutate_definitions.py [--count 200] [--seed 1] [--only TEXT] [--list] [--all]
                              [--prove] [--jobs 1] [--through "WORDS"] [--results FILE]
 
-What it makes of a definition's right side: `&&` for `||`, `<` for `<=`, `true` for `false`, a number one more, `None` for a
-`Some`, last for first, two arguments or two neighbouring cases exchanged, the sides of an `if` exchanged, a case, a `not`,
-a condition or a field of a record left out. All of them are made from the text in one order; the seed chooses so many,
-spread over the files, and `--all` takes all. `definition_values.py` says what each example comes to with the turn in its place, a
-tenth of a second for each turn. A turn that gives some example no meaning, as one of the wrong kind, is no turn: it is told
-as not made, and counts for nothing.
+These are the mutations of a definition's right side: `&&` for `||`, `<` for `<=`, `true` for `false`, a number plus
+one, `None` for a `Some`, last for first, two arguments or two neighbouring cases exchanged, the sides of an `if`
+exchanged, and a case, a `not`, a condition or a field of a record left out. All of them are made from the text in one
+order. The seed chooses --count of them, spread over the files. `--all` takes all. `definition_values.py` computes the
+value of each example with the mutation in place, in a tenth of a second for each mutation. If an example then has no
+meaning, for example because of a wrong type, the mutation is invalid. It is reported as `not made` and doesn't count.
 
-What no example sees is told. With `--prove` the prover is asked of it, by a check of the definition's whole crate in a copy:
-where the definition is refused the turn isn't made, and where a law or the code is, that sees it. Then statements are turned
-as well, words that begin with a capital letter, of which `definition_values.py` knows nothing; where jac_semantics_examples stands on their crate
-the prover is asked of its examples too. What is turned of jac_engine is asked of the examples of jac_answer_examples first, among whose
-own definitions it stands then, so that the engine isn't proved for each turn. `--jobs` copies are at work side by side,
-`--through` are words to run each check through, and what is told in the file of the results isn't tried again."""
+Mutations that no example notices are reported. With `--prove` the prover then checks the whole crate of the definition
+in a copy. If it refuses the definition, the mutation is invalid. If it refuses a law or the code, that law or code
+notices the mutation. With `--prove` statements are mutated too. Their names begin with a capital letter, and
+`definition_values.py` can't evaluate them. If jac_semantics_examples depends on their crate, the prover checks its
+examples too. Mutations of jac_engine are first tried with the examples of jac_answer_examples. For that the definitions
+are copied among those of this crate, so that the engine isn't proved for each mutation. `--jobs` is the number of
+copies that work in parallel. `--through` is a command that each check is run through. Mutations whose outcome is in the
+results file aren't tried again."""
 import collections
 import concurrent.futures
 import os
@@ -38,33 +41,34 @@ SAMPLES, FILES = 'jac_semantics_examples', {
     'jac_rows': ('Project', 'Tables', 'Good'),
     'jac_engine': ('Answers',),
 }
-# Crates whose definitions are asked of another one's examples, each by a copy among that one's definitions.
+# Crates whose definitions are tried with another crate's examples, as a copy among that crate's definitions.
 ASKED = {'jac_engine': 'jac_answer_examples'}
 OPENING, CLOSING = '([{', ')]}'
 TOKEN = re.compile(r'"(?:[^"\\]|\\.)*"|λ|[◌\w.₀-₉]+(?:-[\w.]+)*|[()\[\]{};,]|[^\s\w()\[\]{};,"λ]+')
 EXCHANGED = {'&&': '||', '||': '&&', '<': '≤', '≤': '<', '+ℤ': '-ℤ', '-ℤ': '+ℤ', '*ℤ': '+ℤ', '+': '*', '*': '+', '/': '%',
              '%': '/', 'true': 'false', 'false': 'true', 'nat_lt': 'nat_le', 'nat_le': 'nat_lt', '×': '⊎', '⊎': '×',
              'is_narrow': 'is_wide', 'is_wide': 'is_narrow', 'verbs.Get': 'verbs.Post', 'verbs.Post': 'verbs.Get'}
-# Words and signs at which an application begins anew.
+# Words and signs after which a new application begins.
 KEYWORDS = {'if', 'then', 'else', 'let', 'in', 'λ', 'record', 'before', '=', '→', '&&', '||', '++', '∷', '==', '≡', '×', '⊎',
             '<', '≤', '+', '*', '/', '%', '^', '+ℤ', '-ℤ', '*ℤ', ':', '.', ';', ','}
-# How the prover tells an example that it refuses.
+# How the prover reports an example that it refuses.
 EXAMPLE = re.compile(r'(?m)^fn (?:%s)::\w+::(\w+): no' % '|'.join([SAMPLES, *ASKED.values()]))
-# Functions that say the same of their two arguments in either order: to exchange those turns nothing.
+# Functions whose result doesn't depend on the order of their two arguments, so exchanging these is no mutation.
 EVEN = {'same_text', 'equality.ghosts.eq', 'beq'}
 Turn = collections.namedtuple('Turn', 'crate path line kind before after text says')
 Item = collections.namedtuple('Item', 'start end indent name')
 
 
 def masked(text):
-    """The text with comments and what stands in quotes by blanks, place for place."""
+    """Returns the text with blanks for comments and underscores for what is in quotes, place for place."""
     blank = lambda match: re.sub(r'[^\n]', ' ', match.group(0))                 # noqa: E731
     quoted = lambda match: '"' + '_' * (len(match.group(0)) - 2) + '"'          # noqa: E731
     return re.sub(r'"(?:[^"\\\n]|\\.)*"', quoted, re.sub(r'(?m)^\s*--.*$', blank, text))
 
 
 def items(plain):
-    """The lines of the text with what belongs to each: a clause of a definition, a field, a signature."""
+    """Returns the items of the text, each a line with what belongs to it: a clause of a definition, a field, a
+    signature."""
     found = []
     for match in re.finditer(r'(?m)^( *)(\S.*)$', plain):
         indent = len(match.group(1))
@@ -80,7 +84,7 @@ def items(plain):
 
 
 def clauses(text):
-    """The clauses of the definitions: where each begins, where its right side does, and where it ends."""
+    """Yields the clauses of the definitions: the item of each, and where its right side begins."""
     plain = masked(text)
     for item in items(plain):
         equals = re.search(r' =(?=\s)', plain[item.start:item.end])
@@ -89,7 +93,7 @@ def clauses(text):
 
 
 def fields(text):
-    """The fields of the records that are no plain data: each says something that holds."""
+    """Yields where the fields begin and end of the records that aren't plain data. Each such field states something."""
     plain = masked(text)
     for match in re.finditer(r'(?m)^pub record \w+(?:.*\n(?!  pub ))*.*\bwhere\n((?:  .*\n)*)', plain):
         inner, start = match.group(1), match.start(1)
@@ -100,7 +104,7 @@ def fields(text):
 
 
 def atoms(text, start, end):
-    """The applications between two places, each as the places of its parts, with those inside of brackets as well."""
+    """Returns the applications between two places, also those inside brackets, each as the places of its parts."""
     plain, run, found = masked(text), [], []
 
     def close():
@@ -133,7 +137,7 @@ def atoms(text, start, end):
 
 
 def signatures():
-    """The types of the arguments of the words of specs/, by name, where a name has one signature."""
+    """Returns the types of the arguments of each name of specs/ that has only one signature."""
     found = collections.defaultdict(set)
     for crate in ('jac_value', 'jac_world', 'jac_lang', 'jac_rows', 'jac_plain', 'jac_route', 'jac_replies', 'jac_engine'):
         folder = os.path.join(TOP, 'crates', crate, 'specs')
@@ -149,19 +153,21 @@ def signatures():
 
 
 def arguments_of(kind):
-    """The parts of a type between its outermost arrows."""
+    """Returns the argument types of a type: its parts before its outermost arrows."""
     parts = operands(kind, 0, len(kind), '→')
     return [(kind, one, two) for one, two in parts[:-1]]
 
 
 def may_exchange(known_types, head, place):
-    """Whether two neighbouring arguments may have one type: they do, or what is applied isn't known here."""
+    """Returns whether two neighbouring arguments may have the same type: they do, or the function's signature isn't
+    known here."""
     types = known_types.get(head.split('.')[-1])
     return types is None or place + 1 >= len(types) or types[place] == types[place + 1]
 
 
 def by_tokens(text, start, end, known_types):
-    """A word for its opposite, a number one more, none for some; each with its kind."""
+    """Yields mutations with their kinds: a word's opposite, a number plus one, none for some, a `not` left out, two
+    arguments exchanged."""
     plain = masked(text)
     for match in TOKEN.finditer(plain, start, end):
         token = match.group(0)
@@ -184,7 +190,7 @@ def by_tokens(text, start, end, known_types):
 
 
 def named_kinds(left, types, known_types):
-    """The variables of a left side, each with its type, where that is known."""
+    """Returns the variables of a left side, each with its type, as far as that is known."""
     found = {}
     for part, kind in zip(parts(left), types or ()):
         if re.fullmatch(r'[a-z]\w*', part):
@@ -196,7 +202,8 @@ def named_kinds(left, types, known_types):
 
 
 def by_names(text, item, start, known_types):
-    """A variable for the next one of its type, and the values of two neighbouring fields of a record exchanged."""
+    """Yields mutations: a variable replaced by the next one of its type, and the values of two neighbouring fields of a
+    record exchanged."""
     plain = masked(text)
     left = plain[item.start:start - 2].strip()[len(item.name):]
     kinds = named_kinds(left, known_types.get(item.name), known_types)
@@ -215,7 +222,8 @@ def by_names(text, item, start, known_types):
 
 
 def operands(plain, start, end, sign):
-    """The places of the operands of this sign at the outermost level between two places, where there are several."""
+    """Returns the places of the operands of this sign at the outermost level between two places, or nothing if the sign
+    isn't there."""
     depth, cuts, place = 0, [], start
     while place < end:
         mark = plain[place]
@@ -230,7 +238,7 @@ def operands(plain, start, end, sign):
 
 
 def spans(plain, start, end):
-    """The right side, and what stands in each bracket of it."""
+    """Yields the places of the right side, and of what is inside each of its brackets."""
     yield start, end
     stack = []
     for place in range(start, end):
@@ -241,7 +249,7 @@ def spans(plain, start, end):
 
 
 def by_structure(text, start, end):
-    """Conditions left out, the sides of `++` and of an `if` exchanged."""
+    """Yields mutations: a condition left out, and the sides of a `++` or of an `if` exchanged."""
     plain = masked(text)
     for begin, stop in spans(plain, start, end):
         while begin < stop and plain[begin].isspace():
@@ -268,7 +276,8 @@ def variables(side):
 
 
 def by_cases(text, found):
-    """A case left out where another one takes it, and the right sides of two neighbouring cases exchanged."""
+    """Yields mutations: a case left out that another case covers, and the right sides of two neighbouring cases
+    exchanged."""
     for place, ((one, right), (two, other)) in enumerate(zip(found, found[1:])):
         if one.name != two.name or one.indent != two.indent:
             continue
@@ -283,7 +292,7 @@ def by_cases(text, found):
 
 
 def turns(crate, name, known_types):
-    """All turns of a file, in the order of the text; those of statements say so."""
+    """Returns all mutations of a file, in the order of the text. Those of statements are marked."""
     path = 'crates/%s/specs/%s.antt' % (crate, name)
     text, made = read(path), []
     found = list(clauses(text))
@@ -309,7 +318,8 @@ def squeezed(words):
 
 
 def chosen(words):
-    """So many of all turns, from each file as many as its share is, in an order that the seed says."""
+    """Returns the chosen mutations, in an order that the seed gives, and the number of all mutations. Each file is
+    represented in proportion to its mutations."""
     known_types, chance, found = signatures(), random.Random(words.seed), []
     every = [[turn for turn in turns(crate, name, known_types) if words.prove or not turn.says]
              for crate, names in FILES.items() for name in names if words.prove or crate != 'jac_engine']
@@ -323,7 +333,7 @@ def chosen(words):
 
 
 def below(crate, but=()):
-    """The crate and those of this repository that it stands on, but these, lowest first."""
+    """Returns the crate and the crates of this repository that it depends on, without those of `but`, lowest first."""
     lines = dict(line.split(':', 1) for line in read('crates.txt').split('\n') if line and not line.startswith('#'))
     needed, left = set(), [crate]
     while left:
@@ -336,7 +346,7 @@ def below(crate, but=()):
 
 
 def copy(folder, crate, but=()):
-    """A folder with what this crate needs, libraries too."""
+    """Fills a folder with what this crate needs, including libraries."""
     needed, lines = below(crate, but)
     with open(os.path.join(folder, 'crates.txt'), 'w', encoding='utf-8') as file:
         file.write(''.join('%s: %s\n' % (name, lines[name]) for name in needed))
@@ -347,7 +357,7 @@ def copy(folder, crate, but=()):
 
 
 def as_own(folder, crate, asked):
-    """Puts the definitions of a crate that are turned among those of the examples that are asked."""
+    """Copies the definitions of a crate that are mutated among those of the crate whose examples are tried."""
     top = os.path.join(folder, 'crates', asked)
     for name in FILES[crate]:
         shutil.copy(os.path.join(TOP, 'crates', crate, 'specs', name + '.antt'), os.path.join(top, 'specs'))
@@ -363,7 +373,7 @@ def as_own(folder, crate, asked):
 
 
 class Place:
-    """Folders with what a definition's crate needs, which turns are tried in one after another."""
+    """Folders with what a definition's crate needs. Mutations are tried in them one after another."""
 
     def __init__(self, through):
         self.through, self.folders = through, {}
@@ -377,7 +387,7 @@ class Place:
         return self.folders[crate, asked]
 
     def tried(self, turn):
-        """What the prover says of the turn: that it isn't made, or that an example, a law or the code sees it, or that
+        """Returns the prover's outcome for a mutation: it is invalid, or an example, a law or the code notices it, or
         nothing does."""
         outcome = self.told(turn, ASKED[turn.crate]) if turn.crate in ASKED else 'SURVIVES'
         if outcome != 'SURVIVES':
@@ -385,7 +395,7 @@ class Place:
         return self.told(turn, SAMPLES if turn.says and turn.crate in below(SAMPLES)[0] else turn.crate)
 
     def told(self, turn, asked):
-        """What the check of a crate says of the turn."""
+        """Returns the outcome of checking one crate with the mutation."""
         place = turn.path.replace(turn.crate, asked) if ASKED.get(turn.crate) == asked else turn.path
         path = os.path.join(self.folder(turn.crate, asked), place)
         before = read(path)
@@ -410,12 +420,12 @@ class Place:
 
 
 def is_unmade(told, name):
-    """The definition itself was refused."""
+    """Returns whether the definition itself was refused."""
     return re.search(r'(?m)specs/(?:\S*/)?%s: ?\S*.*(?:error|expected|refused)' % re.escape(name), told) is not None
 
 
 def by_examples(numbered):
-    """What the examples say of each turn."""
+    """Yields what the examples say about each mutation."""
     logic = Logic(SAMPLES)
     wrong = logic.fails()
     if wrong:
@@ -431,7 +441,7 @@ def line_of(number, turn, outcome):
 
 
 def known(path):
-    """What was told of turns before, by what a line says of them behind their outcome."""
+    """Returns the outcomes of earlier runs, by what follows the outcome in a line of the results."""
     if not path or not os.path.exists(path):
         return {}
     with open(path, encoding='utf-8') as file:
@@ -440,7 +450,7 @@ def known(path):
 
 
 def ask_prover(left, words):
-    """What the prover says of these turns, each as it is told."""
+    """Yields what the prover says about these mutations, each as it becomes known."""
     places = queue.Queue()
     for _ in range(words.jobs):
         places.put(Place(words.through.split()))
@@ -460,7 +470,7 @@ def ask_prover(left, words):
 
 
 def try_all(numbered, words):
-    """The outcome of each turn, told and written down as it is known."""
+    """Prints and records the outcome of each mutation as it becomes known. Returns how often each outcome occurred."""
     told, outcomes = known(words.results), {}
 
     def tell(number, turn, outcome):
@@ -491,15 +501,15 @@ def try_all(numbered, words):
 def read_words():
     parser = script_parser()
     for name, shown, kind, value, about in (
-            ('--count', 'N', int, 200, 'how many turns the seed chooses (%(default)s)'),
+            ('--count', 'N', int, 200, 'how many mutations the seed chooses (%(default)s)'),
             ('--seed', 'N', int, 1, 'the seed (%(default)s)'),
-            ('--jobs', 'N', int, 1, 'how many copies are at work at once (%(default)s)'),
-            ('--through', 'WORDS', str, '', 'the words that each check is run through'),
-            ('--results', 'FILE', str, '', 'where outcomes are written, and those of an earlier run are read'),
-            ('--only', 'TEXT', str, '', 'only the turns in files whose path has this text')):
+            ('--jobs', 'N', int, 1, 'how many copies work in parallel (%(default)s)'),
+            ('--through', 'WORDS', str, '', 'a command that each check is run through'),
+            ('--results', 'FILE', str, '', 'the file of outcomes; those of earlier runs are read from it'),
+            ('--only', 'TEXT', str, '', 'only the mutations in files whose path has this text')):
         parser.add_argument(name, metavar=shown, type=kind, default=value, help=about)
-    for name, about in (('--list', 'list the turns, and try none'), ('--all', 'take all turns'),
-                        ('--prove', 'ask the prover of each turn that no example sees')):
+    for name, about in (('--list', 'list the mutations, and try none'), ('--all', 'take all mutations'),
+                        ('--prove', 'ask the prover about each mutation that no example notices')):
         parser.add_argument(name, action='store_true', help=about)
     return parser.parse_args()
 

@@ -1,11 +1,11 @@
 #!/usr/bin/env python3
-"""Makes a new application (tools/new.py) in a temporary folder, and does what its README.md says: checks it, walks it,
-serves it and looks at it twice. Word: the program, or the script jac. Prints each case that fails, and ends with a
-count.
+"""Makes a new application (tools/new.py) in a temporary directory, and does what its README.md says: checks it, walks
+it, runs the linter on it, serves it, and makes the first changes. Argument: the program, or the script jac. Prints each
+failed case, then a count.
 
-Served, it is used by two people and a stranger. Its walk has to fail once the policy lets everybody read, and once a
-view that writes asks nobody. The pages of the walk are read by tidy, where that is installed. Without Jinja2 all but
-the first two cases are skipped."""
+While the application is served, two people and a stranger use it. Its walk must fail if the policy lets everybody read,
+and if a view that writes doesn't check the viewer. tidy reads the pages of the walk, if it is installed. Without Jinja2
+all but the first two cases are skipped."""
 import os
 import re
 import shutil
@@ -29,7 +29,7 @@ PROGRAM = proved.program(proved.first_word())
 PYTHON = [sys.executable]
 START = [PROGRAM] if proved.is_script(PROGRAM) else [*PYTHON, os.path.join(TOOLS, 'run_folder.py'), PROGRAM]
 WALK = [*PYTHON, os.path.join(TOOLS, 'walk.py'), '--program', PROGRAM]
-# a change of main, and a line of the walk that then has to be reported
+# a change of main, and a line of the walk that must then be reported
 TURNED = [
     ('(policy (or (get Note shared this) (and (live viewer) (eq (get Note owner this) viewer))))', '(policy true)',
      'lacks "Plan" "boat" "Let everybody read it"'),
@@ -41,7 +41,7 @@ TURNED = [
      '"/notes" (params (title text) (words text) (shared bool))\n  (if true',
      'as nobody POST /notes title=Spam -> 404'),
 ]
-# what README.md says to change first: a field, who reads it
+# what README.md says to change first: a new field, and who reads it
 FIELD = [
     ('main', '(shared bool))\n  (group', '(shared bool) (day text))\n  (group'),
     ('main', '"/notes" (params (title text) (words text) (shared bool))',
@@ -72,7 +72,7 @@ def has_jinja():
 
 
 def of_making(folder):
-    """What is wrong where a folder is made, and where it is there already."""
+    """Checks that a folder is made, and that a folder that exists already is left alone."""
     status, out = make(folder)
     right = status == 0 and os.path.isfile(os.path.join(folder, 'main')) and 'README.md says what to type' in out
     yield None if right else 'new: %d, %s' % (status, out)
@@ -83,7 +83,7 @@ def of_making(folder):
 
 
 def commands(folder):
-    """What README.md says to type, with the program that is checked."""
+    """Yields the commands that README.md says to type, with the program that is checked."""
     with open(os.path.join(folder, 'README.md'), encoding='utf-8') as file:
         text = file.read()
     for line in re.findall(r'(?m)^\| to .*\| `([^`]*)` \|$', text):
@@ -95,7 +95,7 @@ def commands(folder):
 
 
 def of_readme(folder):
-    """What is wrong with the commands of README.md that end by themselves."""
+    """Checks the commands of README.md that end by themselves."""
     found = dict(commands(folder))
     yield None if set(found) == {'check', 'walk', 'serve', 'dev', 'lint.py'} else 'README.md has the commands %s' % list(found)
     for name, said in (('check', 'ok 2 models'), ('walk', 'all met'), ('lint.py', 'nothing to look at')):
@@ -104,14 +104,14 @@ def of_readme(folder):
 
 
 class Kept(urllib.request.HTTPRedirectHandler):
-    """Leaves a redirect as it is."""
+    """Doesn't follow redirects."""
 
     def redirect_request(self, *_):
         return None
 
 
 def asked(port, path, who, form=None):
-    """The status, the location and the page."""
+    """Sends a request. Returns the status, the location and the page."""
     body = urllib.parse.urlencode(form).encode() if form is not None else None
     request = urllib.request.Request('http://127.0.0.1:%d%s' % (port, path), body)
     request.add_header('Connection', 'close')
@@ -125,7 +125,7 @@ def asked(port, path, who, form=None):
 
 
 def of_serving(folder):
-    """What is wrong with the application as README.md has it served: a note that Ann writes is read by her alone."""
+    """Checks the application, served as README.md says: only Ann can read a note that she writes."""
     words = dict(commands(folder))['serve']
     port = serving.free_port()
     words[words.index('8080')] = str(port)
@@ -149,7 +149,7 @@ def of_serving(folder):
 
 
 def of_turned(folder):
-    """What the walk doesn't notice of a change of the application."""
+    """Checks that the walk notices each change of the application."""
     path = os.path.join(folder, 'main')
     with open(path, encoding='utf-8') as file:
         text = file.read()
@@ -165,7 +165,8 @@ def of_turned(folder):
 
 
 def change(folder, edits):
-    """Makes the edits, each of a text that is in its file once; says which is none."""
+    """Makes the edits. The text of each edit must be in its file exactly once. Returns a message if it isn't, or
+    None."""
     for name, old, new in edits:
         path = os.path.join(folder, name)
         with open(path, encoding='utf-8') as file:
@@ -178,7 +179,7 @@ def change(folder, edits):
 
 
 def of_changes(folder, copy):
-    """What is wrong with the changes that README.md begins with, and with the records of before."""
+    """Checks the changes that README.md begins with, and that the earlier records are upgraded."""
     with open(os.path.join(folder, 'README.md'), encoding='utf-8') as file:
         yield None if GROUP in file.read() else 'README.md has another group'
     with open(os.path.join(folder, 'events'), 'w', encoding='utf-8') as file:
@@ -196,7 +197,7 @@ def of_changes(folder, copy):
 
 
 def of_markup(folder):
-    """What tidy says against the pages that the walk is answered with."""
+    """Yields what tidy says against the pages that the walk gets."""
     events = os.path.join(folder, 'events')
     run([*WALK, '.', '--events', events], folder)
     done = subprocess.run([*START, 'replay', folder, events], stdin=subprocess.DEVNULL, stdout=subprocess.PIPE,

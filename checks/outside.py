@@ -1,6 +1,6 @@
 #!/usr/bin/env python3
-"""Runs the built program against the host: its examples, files that are missing, wrong or too long, and a
-standard output that takes nothing. Words: the program. Prints each case that fails, and ends with a count."""
+"""Runs the built program with its examples, with files that are missing, wrong or too long, and with a standard output
+that takes nothing. Argument: the program. Prints each failed case, then a count."""
 import itertools
 import os
 import re
@@ -18,7 +18,7 @@ ASK = b'ask - GET "/" ""\n'
 PAGE = b'reply 200 "" "hello"\n'
 DONE = b'reply 200 "" ""\n'
 
-# Each note has a label that nobody is shown, and which note is the first one with the key depends on all of them.
+# Each note has a label that nobody is shown. Which note is the first one with the key depends on all these labels.
 FIRST = b'(put (eq (none Note) (first (from ((n Note)) (eq (get Note body n) "key") key))))'
 NOTES = b'''(app (model Note (fields (body text)) (group (guards (body "locked")) (policy false)))
  (view post "/some" (params)%s)
@@ -31,7 +31,7 @@ WORDS = b'''(app (model Word (fields (text text)))
  (view post "/words" (params (word text)) (put word))
  (view get "/words" (params (word text)) (put word)))
 '''
-# What one connection brings, and how many replies it has: one that stays open, one that is closed, one that is refused.
+# What one connection sends, and how many replies it gets: one that stays open, one that is closed, one that is refused.
 FORM = b'POST /words HTTP/1.1\r\nHost: a\r\nContent-Type: application/x-www-form-urlencoded\r\nContent-Length: %d\r\n\r\n%s'
 KEPT = b'GET /words?word=one HTTP/1.1\r\nHost: a\r\n\r\nHEAD /words?word=two HTTP/1.1\r\nHost: a\r\nX: y\r\n\r\n' \
     + FORM % (14, b'word=three%21+') + b'GET /none HTTP/1.1\r\nHost: a\r\n\r\n'
@@ -45,7 +45,7 @@ def run(words, folder, **options):
 
 
 def case(name, files, words, status, out):
-    """A run over these files, compared with its status and output."""
+    """Runs the program over these files, and compares its status and output."""
     with tempfile.TemporaryDirectory() as folder:
         for file, data in files.items():
             with open(os.path.join(folder, file), 'wb') as handle:
@@ -61,7 +61,7 @@ def replay(name, app, events, status, out):
 
 
 def examples():
-    """The examples of the repository: the folder of each, and what the names of its files begin with."""
+    """Yields the examples of the repository: the folder of each, and what the names of its files begin with."""
     for name in sorted(os.listdir(EXAMPLES)):
         path = os.path.join(EXAMPLES, name)
         if name.endswith('.app'):
@@ -71,7 +71,7 @@ def examples():
 
 
 def example(folder, prefix):
-    """An example, whose output stands beside it, and its audit where it has policies."""
+    """Checks an example: its output, and its audit if a file of the audit is beside it."""
     def beside(name):
         path = os.path.join(folder, prefix + name)
         if os.path.exists(path):
@@ -92,8 +92,8 @@ def example(folder, prefix):
 
 
 def whys(folder):
-    """What viewers aren't shown of an example once its walk was kept in a file: `why` beside it has a line `why VIEWER`, and
-    behind it what is put."""
+    """Checks what viewers aren't shown of an example whose walk is stored in a file. The file `why` of the example has
+    a line `why VIEWER` for each viewer, and the expected output after it."""
     with open(os.path.join(folder, 'why'), 'rb') as handle:
         parts = re.split(rb'(?m)^why (\S+)\n', handle.read())[1:]
     with tempfile.TemporaryDirectory() as room:
@@ -108,8 +108,9 @@ def whys(folder):
 
 
 def next_version(folder):
-    """The second version of an example, which stands in its folder `next`: once the first one's walk was kept in a file,
-    the file is upgraded, and the second one's walk goes on with it. Beside its output stands the line of the upgrade."""
+    """Checks the second version of an example, which is in its folder `next`. The first version's walk is stored in a
+    file, the file is upgraded, and the second version's walk continues with it. The expected output begins with the
+    line of the upgrade."""
     def content(*name):
         with open(os.path.join(folder, *name), 'rb') as handle:
             return handle.read()
@@ -132,13 +133,13 @@ def next_version(folder):
 
 
 def difference(have, want):
-    """The first line that differs, and the line that was wanted."""
+    """Returns the first line that differs, and the line that was wanted."""
     pairs = itertools.zip_longest(have.split(b'\n'), want.split(b'\n'), fillvalue=b'no line')
     return next(('line %d: %r for %r' % (at, a[:400], b[:400]) for at, (a, b) in enumerate(pairs, 1) if a != b), 'no difference')
 
 
 def audited(folder, words):
-    """A run, and its audit, which goes on behind what the file held before."""
+    """Runs a command. Returns the run and its audit, which must be appended to what the file held before."""
     old = b'old\n' * 1000
     with tempfile.NamedTemporaryFile() as audit:
         audit.write(old)
@@ -146,7 +147,7 @@ def audited(folder, words):
         done = run(words + ['--audit', audit.name], folder, stdout=subprocess.PIPE)
         with open(audit.name, 'rb') as handle:
             kept, lines = handle.read(len(old)), handle.read()
-        return done, lines if kept == old else b'the file was not gone on with\n' + kept + lines
+        return done, lines if kept == old else b'the audit was not appended to the file\n' + kept + lines
 
 
 def closed_output():
@@ -168,8 +169,8 @@ def directory():
 
 
 def many_labels():
-    """A value of a POST may hang on 1,024 labels one behind the other; one more wants memory, and the run goes on. A
-    GET makes its page in one world, whatever the number."""
+    """Checks that a value of a POST may depend on 1,024 labels. With one more the POST runs out of memory and gets 500,
+    and the run goes on. A GET makes its page in one world, whatever the number."""
     some, one = b'ask - POST "/some" ""\n', b'ask - POST "/one" ""\n'
     first = b'ask - POST "/first" ""\nask - GET "/first" ""\n'
     true, failed = b'reply 200 "" "true"\n', b'reply 500 "" "500 Internal Server Error\\n"\n'
@@ -178,7 +179,7 @@ def many_labels():
 
 
 def cuttings(stream):
-    """The stream in one piece, byte by byte, in pieces of each length up to 16, and in two at each place."""
+    """Yields the stream in one piece, byte by byte, in pieces of each length up to 16, and cut in two at each place."""
     for length in [len(stream), *range(1, 17)]:
         yield [stream[at:at + length] for at in range(0, len(stream), length)]
     for at in range(1, len(stream)):
@@ -186,12 +187,13 @@ def cuttings(stream):
 
 
 def quoted(data):
-    """Bytes as they stand between the quotes of a line of events."""
+    """Returns the bytes as they are written between the quotes of a line of events."""
     return data.replace(b'\r', b'\\r').replace(b'\n', b'\\n')
 
 
 def cut():
-    """However a stream is cut in pieces, its replies are byte for byte those of the stream in one piece."""
+    """Checks that however a stream is cut into pieces, its replies are byte for byte those of the stream in one
+    piece."""
     for stream, replies in STREAMS:
         ways = list(cuttings(stream))
         lines = []

@@ -1,12 +1,11 @@
 #!/usr/bin/env python3
-"""Looks at the pages that the scripts make, in a headless Chromium at 390 and at 1280 pixels: the bar of tools/dev.py,
-open and closed, its page of a text that is refused, of a first text that is refused and of another schema, its own
-page, the labels of a page, its page where the program gives no reply, and the page of tools/access_matrix.py. Nothing
-may be wider than the screen, and each page has a title, a language and a way back.
+"""Checks the pages that the scripts make, in a headless Chromium at 390 and at 1280 pixels: the bar of tools/dev.py,
+open and closed; its pages for a text that is refused, for a first text that is refused and for another schema; its own
+page; the labels of a page; its page if the program gives no reply; and the page of tools/access_matrix.py. Nothing may
+be wider than the screen. Each page must have a title, a language and a way back.
 
-Words: the program, and a folder for pictures of the pages, if they are wanted; `checks/markup.py --pictures` takes
-those of the examples. Prints each case that fails, and ends with a count. Where Chromium isn't installed nothing is
-done, and that is said."""
+Arguments: the program, and optionally a folder for pictures of the pages; `checks/markup.py --pictures` takes those of
+the examples. Prints each failed case, then a count. If Chromium isn't installed, the check is skipped and says so."""
 import contextlib
 import functools
 import glob
@@ -36,11 +35,11 @@ BAR = '''(() => { const bar = document.querySelector("jac-dev-bar");
   const room = bar && bar.shadowRoot.querySelector(".bar");
   return room ? room.scrollWidth - room.clientWidth : -1 })()'''
 OPEN = 'document.querySelector("jac-dev-bar").shadowRoot.querySelector(".labels").open = true'
-# what the labels are once they are read
+# the text of the labels once they are loaded
 READ = 'document.querySelector("jac-dev-bar").shadowRoot.querySelector(".labels .inside").innerText'
 HEAD = 'document.documentElement.lang + "|" + document.title'
 BACK = 'document.links.length + document.querySelectorAll("form").length'
-# how much of the page's end lies under the bar once one has moved to the end
+# how much of the page's end is under the bar after scrolling to the end
 UNDER = '''(() => { const bar = document.querySelector("jac-dev-bar");
   if (!bar) return 0;
   scrollTo(0, document.documentElement.scrollHeight);
@@ -49,7 +48,7 @@ UNDER = '''(() => { const bar = document.querySelector("jac-dev-bar");
     .map((one) => one.getBoundingClientRect().bottom));
   scrollTo(0, 0);
   return Math.max(0, Math.ceil(last - room)) })()'''
-# everything that is wider than the screen, but for what can be moved sideways by itself
+# everything that is wider than the screen, except what can be scrolled sideways by itself
 TOO_WIDE = '''(() => { const found = [];
   for (const one of document.querySelectorAll("body *")) {
     let box = one;
@@ -62,7 +61,7 @@ TOO_WIDE = '''(() => { const found = [];
 
 
 class Dev:
-    """A run of dev over a folder of its own, a copy of an example."""
+    """A run of dev over a copy of an example, in a folder of its own."""
 
     def __init__(self, program, folder, example='calendar', before=None, options=()):
         self.folder, self.port = folder, free_port()
@@ -89,7 +88,7 @@ class Dev:
             return line.getresponse().status
 
     def change(self, name, old, new):
-        """Saves a part with something else in it."""
+        """Saves a part in which one text is replaced by another."""
         path = os.path.join(self.app, name)
         with open(path, encoding='utf-8') as file:
             text = file.read()
@@ -104,7 +103,7 @@ class Dev:
         until(lambda: self.get('/dev//state') != before)
 
     def program(self):
-        """The number of the process that serves."""
+        """Returns the number of the process that serves."""
         for name in filter(str.isdigit, os.listdir('/proc')):
             with contextlib.suppress(OSError), open('/proc/%s/stat' % name) as stat, \
                     open('/proc/%s/cmdline' % name, 'rb') as words:
@@ -138,7 +137,7 @@ def dev_over(program, **words):
 
 
 class Looker:
-    """The browser, and the folder for pictures, if there is one."""
+    """The browser, and the folder for pictures if there is one."""
 
     def __init__(self, chromium, pictures):
         self.chromium, self.pictures = chromium, pictures
@@ -147,7 +146,7 @@ class Looker:
         return browser.Page(self.chromium, markup.Address(port), 'pictures')
 
     def looked(self, page, name, path, *texts, act=None):
-        """A result for a page at each width: what it says, and that it fits."""
+        """Checks a page at each width: what it says, and that it fits."""
         for width, screen in ((PHONE, 'phone'), (DESKTOP, 'desktop')):
             page.screen(width)
             _, text = page.go(path)
@@ -169,7 +168,7 @@ class Looker:
 
 
 def opened(page):
-    """Opens the labels of the bar, and gives what they say."""
+    """Opens the labels of the bar, and returns their text."""
     page.run(OPEN)
     until(lambda: 'In words' not in page.run(READ))
     return page.run(READ)
@@ -227,7 +226,7 @@ def files_of(folder):
 
 
 def of_matrix(program, looker):
-    """The table of who sees what, of the conference."""
+    """Checks the page of who sees what for the conference."""
     example = os.path.join(TOP, 'examples', 'conference')
     with tempfile.TemporaryDirectory() as folder:
         words = {'cwd': folder, 'stdin': subprocess.DEVNULL, 'stdout': subprocess.DEVNULL, 'check': True}

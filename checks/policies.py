@@ -1,8 +1,9 @@
 #!/usr/bin/env python3
-"""Says of the larger examples, and of the calendar of `jac demo`, which guarded fields their policies read: an application
-is open where they read none and no group hides records (`is_open_app` in crates/jac_open_app_laws/specs/Open.antt). Compares that
-with the table of docs/GUARANTEES.md: where the page is out of date it says so, and its status is 1. With the word
---write it writes the table anew. With other words it tells the same of these files."""
+"""Finds out, for the larger examples and for the calendar of `jac demo`, which guarded fields their policies read. An
+application is open if its policies read no guarded field and no group hides records (`is_open_app` in
+crates/jac_open_app_laws/specs/Open.antt). Compares the result with the table of docs/GUARANTEES.md. If the page is out
+of date, this says so and ends with status 1. With --write it rewrites the table. With names of applications it prints
+their table instead."""
 import re
 import sys
 
@@ -16,7 +17,7 @@ TOKEN = re.compile(r'"(?:[^"\\]|\\.)*"|[()]|[^\s()"]+')
 
 
 def tree(text):
-    """The nested lists of a text."""
+    """Returns the nested lists of a text."""
     stack = [[]]
     for token in TOKEN.findall(text):
         if token == '(':
@@ -34,7 +35,7 @@ def parts(form, head):
 
 
 def fields_read(form):
-    """The fields that the forms of an expression name: those of `get`, and those that a query is sorted by."""
+    """Yields the fields that an expression reads: those of `get`, and those that a query is sorted by."""
     if not isinstance(form, list):
         return
     if form[:1] == ['get']:
@@ -48,7 +49,7 @@ def fields_read(form):
 
 
 def hidden_reads(text):
-    """The guarded fields that policies of the application read, in the order of its models."""
+    """Returns the guarded fields that policies of the application read, in the order of its models."""
     models = parts(tree(text), 'model')
     groups = [(model[1], group) for model in models for group in parts(model, 'group')]
     guarded = [model + '.' + guard[0] for model, group in groups for guards in parts(group, 'guards') for guard in guards[1:]]

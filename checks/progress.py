@@ -1,6 +1,6 @@
 #!/usr/bin/env python3
-"""Looks at what a build and a proof say while they are at work, and when they are stopped: with commands that sleep in
-the place of the compiler and of proofs. No words. Prints each case that fails, and ends with a count."""
+"""Checks what a build and a proof print while they work, and when they are stopped. Commands that sleep replace the
+compiler and the proofs. No arguments. Prints each failed case, then a count."""
 import os
 import re
 import signal
@@ -13,9 +13,9 @@ TOP = os.path.dirname(os.path.dirname(os.path.abspath(__file__)))
 sys.path.append(os.path.join(TOP, 'tools'))
 from arguments import script_parser                                         # noqa: E402
 
-WAIT = 120      # seconds; other programs may have the machine
+WAIT = 120      # seconds; the machine may be busy with other programs
 
-# Each runs below tools/, with a folder of its own as its word.
+# Each of these scripts imports modules of tools/, and gets a folder of its own as its argument.
 TRIAL = '''
 import trial
 trial.EVERY = 0.5
@@ -92,7 +92,7 @@ def begun(script, folder, *words):
 
 
 def ended(script, *words):
-    """The status, the output and what was said on standard error."""
+    """Runs a script to its end. Returns the status, the output and standard error."""
     with tempfile.TemporaryDirectory() as folder:
         run = begun(script, folder, *words)
         out, told = run.communicate(timeout=WAIT)
@@ -100,7 +100,7 @@ def ended(script, *words):
 
 
 def stopped(script, mark, how, *words):
-    """The same of a run that gets a signal once it said this."""
+    """Returns the status and the messages of a run that gets a signal as soon as it has printed `mark`."""
     with tempfile.TemporaryDirectory() as folder:
         run = begun(script, folder, *words)
         read = run.stdout if mark == 'begun' else run.stderr
@@ -117,7 +117,7 @@ def expect(name, have, want):
 
 
 def said(name, text, *patterns):
-    """The patterns are found in this order."""
+    """Checks that the patterns are found in this order."""
     at = 0
     for pattern in patterns:
         found = re.compile(pattern).search(text, at)

@@ -1,15 +1,15 @@
 #!/usr/bin/env python3
-"""Walks the names from the clauses of the program's top call, `run` of jac_app, through the definitions in specs/,
-and compares what it finds with docs/READING.md. Where the page is out of date it says so, and its status is 1.
+"""Follows the names from the clauses of the program's top call, `run` of jac_app, through the definitions in specs/,
+and compares what it finds with docs/READING.md. If the page is out of date, this says so and ends with status 1.
 
     checks/reading.py             compares
-    checks/reading.py --write     writes the tables of docs/READING.md anew
+    checks/reading.py --write     rewrites the tables of docs/READING.md
     checks/reading.py --beyond    prints, file by file, the definitions of specs/ that the promise doesn't reach
-    checks/reading.py --types     prints the types and traits that the definitions name, file by file
+    checks/reading.py --types     prints, file by file, the types and traits that the definitions name
 
-A name is followed where it is defined in specs/ or is a type or a trait of the code; a library's word is counted.
-Variables aren't told from definitions: one that has the name of a definition that its file has or brings in counts as
-that definition. So a file may be said to carry a definition more than it does, and none less."""
+A name is followed if it is defined in specs/, or is a type or a trait of the code. Names from a library are counted.
+Variables aren't distinguished from definitions: a variable counts as a definition if its file has or imports a
+definition of that name. So the result may have too many definitions, but never too few."""
 import os
 import re
 import sys
@@ -25,8 +25,8 @@ LAWS = 'jac_headline', 'laws'
 HEADLINE = 'headline'
 QUOTED = 'HasReplayedFaithfully', 'IsFaithful', 'IsRightPage'
 QUOTERS = 'README.md', 'docs/GUARANTEES.md'
-# Of each law how many definitions it may reach, and the names at which that count stops: each is a notion with a text of
-# its own in docs/READING.md, and its insides aren't counted.
+# How many definitions each law may reach, and the names at which that count stops. docs/READING.md explains each of
+# these names, so what they reach isn't counted.
 LIMITS = {
     'headline': (230, ('IsTopRun', 'command_of', 'HoldSessions', 'IsApplication', 'IsAttached', 'script_of',
                        'application_hearing', 'found', 'parameters', 'PutsReplay', 'audit_lines')),
@@ -44,7 +44,8 @@ def uncommented(text):
 
 
 def first_sentence(text):
-    """That of the first comment, or all of it where none ends: with a capital, and without its full stop."""
+    """Returns the first sentence of the first comment, or the whole comment if no sentence ends in it. It gets a
+    capital letter, and loses its full stop."""
     first = re.search(r'(?m)^-- .*(?:\n-- .*)*', text)
     words = re.sub(r'\n-- ', ' ', first.group()[3:]).strip() if first else ''
     words = re.sub(r'(?<=\.) .*$', '', words).rstrip('.')
@@ -52,7 +53,8 @@ def first_sentence(text):
 
 
 def brief(sentence):
-    """The sentence up to its first colon, where that alone says what a file is about: in four words or more."""
+    """Returns the sentence up to its first colon, if that is four words or more and so says by itself what a file is
+    about."""
     before = sentence.partition(': ')[0]
     return before if len(before.split()) >= 4 else sentence
 
@@ -142,14 +144,15 @@ class Code(Place):
 
     @staticmethod
     def block(text, head):
-        """From the head to its end: a semicolon, or the brace that ends what the line's brace begins."""
+        """Returns the text from the head to its end: a semicolon, or the brace that closes the one on the head's
+        line."""
         start = re.search(r'(?m)^.*\b' + head, text).start()
         ends = [at for at in (text.find('\n}', start), text.find(';\n', start)) if at > 0]
         line = text[start:text.find('\n', start)]
         return text[start:(text.find('\n}', start) if line.rstrip().endswith('{') else min(ends))]
 
     def call(self, name):
-        """A function's head, with its clauses, and without its body."""
+        """Returns a function's head with its clauses, without its body."""
         text = uncommented(read(self.path))
         return Item(self, name, re.search(r'(?m)^pub fn %s\b.*?^\{' % name, text, re.S | re.M).group())
 
@@ -176,7 +179,8 @@ class Repository:
                     places[crate, module] = kind(os.path.relpath(path, TOP), crate)
 
     def item_of(self, place, name):
-        """The item that a name in this place stands for; 'std' for a word of a library, None for anything else."""
+        """Returns the item that a name in this place stands for, 'std' for a name of a library, or None for anything
+        else."""
         if name in place.items:
             return place.items[name]
         if name in place.imports:
@@ -201,7 +205,7 @@ class Repository:
         return self.types.get((crate, path[-1]))
 
     def cited(self, item):
-        """The items that an item's text names, in their order, and the library's words."""
+        """Returns the items that an item's text names, in their order, and the names of libraries."""
         own, library = [], set()
         for dot, name in WORD.findall(item.text):
             found = None if dot else self.item_of(item.place, name)
@@ -212,8 +216,8 @@ class Repository:
         return own, library
 
     def walk(self, call=START, stops=()):
-        """A call, and for each item that it reaches those that this cites, but for the items at which the walk stops; and
-        the library's words."""
+        """Returns the item of a call, the items that it reaches, each with those that it cites, and the names of
+        libraries. The walk doesn't continue beyond the items that `stops` names."""
         start = self.code[call[:2]].call(call[2])
         seen, library = {}, set()
 
@@ -233,7 +237,7 @@ class Repository:
 
 
 def in_order(start, seen):
-    """The files of what was reached, each before those that it cites."""
+    """Returns the files of what was reached, each before those that it cites."""
     cites = {}
     for item, own in seen.items():
         cites.setdefault(item.place, []).extend(other.place for other in own)
@@ -255,7 +259,7 @@ def names(items):
 
 
 def by_file(seen):
-    """The names of what was reached, by file."""
+    """Returns the names of what was reached, by file."""
     reached = {}
     for item in seen:
         reached.setdefault(item.place, set()).add(item.name)
@@ -263,12 +267,13 @@ def by_file(seen):
 
 
 def short(place):
-    """A file of specs/ as the page writes it: `app/Run` for crates/jac_app/specs/Run.antt."""
+    """Returns a file of specs/ as the page writes it: `app/Run` for crates/jac_app/specs/Run.antt."""
     return place.path[len('crates/jac_'):-len('.antt')].replace('/specs/', '/')
 
 
 def definitions_list(start, seen):
-    """The files of specs/ that are reached, each before those that it cites: a line of a list for each."""
+    """Returns a list of the files of specs/ that are reached, with a line for each. Each comes before those that it
+    cites."""
     reached, lines = by_file(seen), []
     for place in in_order(start, seen):
         if isinstance(place, Specs):
@@ -279,7 +284,7 @@ def definitions_list(start, seen):
 
 
 def types_lines(start, seen):
-    """The types and traits that are reached, a line for each file."""
+    """Yields the types and traits that are reached, a line for each file."""
     reached = by_file(seen)
     for place in in_order(start, seen):
         own = [name for name in place.items if name in reached[place]]
@@ -288,7 +293,7 @@ def types_lines(start, seen):
 
 
 def beyond_lines(repository, seen):
-    """The definitions that aren't reached, a line for each file."""
+    """Yields the definitions that aren't reached, a line for each file."""
     reached = by_file(seen)
     for place in repository.specs.values():
         rest = [name for name in place.items if name not in reached.get(place, ())]
@@ -308,7 +313,7 @@ def sentence(repository, seen, library):
 
 
 def lost_definitions(repository):
-    """What the page's table of public sources cites by `CRATE/FILE`, `NAME`, .. and specs/ doesn't have."""
+    """Returns what the page's table of public sources cites as `CRATE/FILE`, `NAME`, .. and specs/ doesn't have."""
     lost = []
     for row in read(PAGE).split(SOURCES)[1].split('\n'):
         place = None
@@ -323,14 +328,14 @@ def lost_definitions(repository):
 
 
 def law_words(name):
-    """The doc comment of a law, as a page has it."""
+    """Returns the doc comment of a law, as a page quotes it."""
     text = read('crates/%s/src/%s.rt' % LAWS)
     lines = re.search(r'((?:^///.*\n)+)pub fn %s\b' % name, text, re.M).group(1).rstrip('\n').split('\n')
     return '\n'.join(line[4:] for line in lines)
 
 
 def law_code(repository, name):
-    """A law and the definitions that are quoted with it."""
+    """Returns the code of a law and of the definitions that are quoted with it."""
     _, seen, _ = repository.walk(LAWS + (name,))
     law = re.search(r'(?ms)^pub fn %s\b.*?^\{\}' % name, read('crates/%s/src/%s.rt' % LAWS)).group()
     items = {item.name: item for item in seen if item.place.crate == LAWS[0]}
@@ -338,13 +343,13 @@ def law_code(repository, name):
 
 
 def law_counts(repository):
-    """Of each law how many definitions it reaches, as a table, and those that reach more than they may."""
+    """Returns a table of how many definitions each law reaches, and the laws that reach more than they may."""
     lines, wrong = ['| Law | Definitions | Each counted as one |', '|---|---|---|'], []
     for name, (limit, stops) in LIMITS.items():
         _, seen, _ = repository.walk(LAWS + (name,), stops)
         count = sum(1 for item in seen if isinstance(item.place, Specs))
         lines.append('| `%s` | %d | %s |' % (name, count, names(stops)))
-        wrong += ['%s reaches %d definitions, and %d may be' % (name, count, limit)] if count > limit else []
+        wrong += ['%s reaches %d definitions, and may reach %d' % (name, count, limit)] if count > limit else []
         wrong += ['%s: the walk meets no %s' % (name, stop) for stop in stops if stop not in {item.name for item in seen}]
     return '\n'.join(lines), wrong
 

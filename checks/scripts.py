@@ -1,10 +1,11 @@
 #!/usr/bin/env python3
-"""Asks each script of tools/, checks/, checks/bench and deploy/ for help, and gives it a flag that it doesn't know. Help
-ends with status 0 and a text that begins with `usage: `, the flag is refused with status 2, both within ten seconds; and
-nothing is begun: no process is left, and no file is written. No words. Prints each that fails, and ends with a count.
+"""Calls each script of tools/, checks/, checks/bench and deploy/ with --help, and with a flag that it doesn't know.
+--help must end with status 0 and print a text that begins with `usage: `. The flag must be refused with status 2. Both
+must end within ten seconds. Nothing may be begun: no process may be left, and no file may be written. No arguments.
+Prints each failure, then a count.
 
-The scripts are a copy's, so that one that begins its work at once finds no crates, and what it writes is seen. A script is
-a file with a line `if __name__ == '__main__':`. Each check of checks/list.txt has to be one."""
+The scripts are those of a copy. So a script that begins its work at once finds no crates, and files that it writes are
+noticed. A script is a file with a line `if __name__ == '__main__':`. Each check of checks/list.txt must be one."""
 import concurrent.futures
 import glob
 import os
@@ -23,7 +24,7 @@ MAIN = re.compile(r"(?m)^if __name__ == '__main__':")
 MOST = 10       # seconds
 UNKNOWN = '--no-such-flag'
 OF_A_COMMAND = 'jac begins it, and all words behind the program are those of a command'
-# scripts that only other ones begin, and why they have words of another kind
+# scripts that only other programs start, and why their arguments are different
 OTHERS = {
     'deploy/explain.py': "its words are those of the unit's ExecStart",
     'tools/fault_place.py': OF_A_COMMAND,
@@ -34,7 +35,7 @@ OTHERS = {
 
 
 def scripts(top):
-    """The paths of the scripts, from the top."""
+    """Yields the paths of the scripts, relative to the top."""
     for folder in 'tools', 'checks', 'checks/bench', 'deploy':
         for path in sorted(glob.glob(os.path.join(top, folder, '*.py'))):
             with open(path, encoding='utf-8') as file:
@@ -43,20 +44,20 @@ def scripts(top):
 
 
 def listed():
-    """The scripts of the checks that ./test runs."""
+    """Returns the scripts of the checks that ./test runs."""
     with open(os.path.join(TOP, 'checks', 'list.txt'), encoding='utf-8') as lines:
         return ['checks/%s.py' % line.split('|')[0].strip() for line in lines if line.strip() and not line.startswith('#')]
 
 
 def files(folder):
-    """The files and folders below it, each with its size and its time."""
+    """Returns the files and folders below a folder, each with its size and its time."""
     return {path: (found.st_size, found.st_mtime_ns) for at, folders, names in os.walk(folder)
             for path in (os.path.join(at, name) for name in folders + names) for found in [os.lstat(path)]}
 
 
 def ended(path, flag, room):
-    """The status, the output, and what was said on standard error, of a run in this folder; and whether it left a process.
-    One that takes too long has no status."""
+    """Runs a script in this folder. Returns the status, the output, standard error, and whether it left a process. The
+    status is None if the script took too long."""
     given = dict(os.environ, TMPDIR=room, PYTHONDONTWRITEBYTECODE='1')
     run = subprocess.Popen([sys.executable, path, flag], cwd=room, env=given, start_new_session=True, text=True,
                            stdin=subprocess.DEVNULL, stdout=subprocess.PIPE, stderr=subprocess.PIPE)
@@ -75,13 +76,13 @@ def ended(path, flag, room):
 
 
 def asked(top, script, flag, want):
-    """What is wrong where a script of this copy gets this flag, or nothing."""
+    """Returns what is wrong if a script of this copy gets this flag, or None."""
     with tempfile.TemporaryDirectory() as room:
         status, out, told, is_left = ended(os.path.join(top, script), flag, room)
         written = sorted(path[len(room) + 1:] for path in files(room))
     name = '%s %s' % (script, flag)
     if status is None:
-        return '%s: it was at work for %d seconds' % (name, MOST)
+        return '%s: it did not end within %d seconds' % (name, MOST)
     if status != want or not (told if want else out).startswith('usage: ') or (out if want else told):
         return '%s: status %d, and %r, %r' % (name, status, out[-300:], told[-300:])
     if written or is_left:
@@ -90,7 +91,7 @@ def asked(top, script, flag, want):
 
 
 def answers(found):
-    """What is wrong with what the scripts answer, and with what they write."""
+    """Yields what is wrong with the scripts' answers, and with the files that they write."""
     with tempfile.TemporaryDirectory() as top, concurrent.futures.ThreadPoolExecutor(processors()) as pool:
         for folder in 'tools', 'checks', 'docs', 'deploy':
             shutil.copytree(os.path.join(TOP, folder), os.path.join(top, folder))

@@ -1,10 +1,10 @@
 #!/usr/bin/env python3
-"""Asks the built program over real connections, by sockets and by curl: replies byte by byte, connections that are
-kept, forms, cookies and redirects, what can't be read, clients that send nothing, drip or go away and how long they
-hold up others, audits that go on, what is told on standard error, and how a run ends. Words: the program. Prints each
-case that fails, and ends with a count. Where something came late it is looked at again, a bounded number of times,
-since another program may take the machine for a moment (late.py). What needs curl is skipped where it isn't installed,
-and that is said (installed.py)."""
+"""Tests the built program over real connections, by sockets and by curl: replies byte by byte, connections that are
+kept open, forms, cookies and redirects, requests that can't be read, clients that send nothing, send slowly or
+disconnect, and how long these delay others, audits that are continued, messages on standard error, and how a run ends.
+Argument: the program. Prints each failed case, then a count. If something was late, it is tested again, a bounded
+number of times, since another program may keep the machine busy for a moment (late.py). What needs curl is skipped if
+curl isn't installed, and the output says so (installed.py)."""
 import contextlib
 import http.client
 import os
@@ -29,7 +29,7 @@ PROGRAM = proved.program(proved.first_word())
 HELLO = b'(app (view get "/" (params) (put "hello"))' \
         b' (view get "/large" (params) %s (put "end")))' % (b'(put "%s")' % (b'x' * 1000) * 100)
 LARGE = 100 * 1000 + len('end')
-ATTEMPTS = 20       # of one of ten clients, until its page comes
+ATTEMPTS = 20       # of each of ten clients, until its page comes
 
 
 @contextlib.contextmanager
@@ -51,7 +51,7 @@ def ends(name, run, connections, replies):
 
 
 def read_all(line):
-    """What comes until the peer ends the connection."""
+    """Returns what arrives until the peer ends the connection."""
     parts = []
     while True:
         part = line.recv(65536)
@@ -61,7 +61,7 @@ def read_all(line):
 
 
 def reply(status, closing, page=None, further=b''):
-    """A reply: a page of HTML, or the status as a text."""
+    """Returns a reply: a page of HTML, or the status as a text."""
     kind, body = (b'text/plain', status + b'\n') if page is None else (b'text/html', page)
     close = b'Connection: close\r\n' if closing else b''
     return b'HTTP/1.1 %s\r\nContent-Type: %s; charset=utf-8\r\nContent-Length: %d\r\n%s%s\r\n%s' % (
@@ -79,7 +79,7 @@ def in_pieces():
 
 
 def kept():
-    """A connection that is kept: requests one after another, and several at once."""
+    """Checks a connection that is kept open: requests one after another, and several at once."""
     with hello(1) as run:
         line = http.client.HTTPConnection('127.0.0.1', run.port, timeout=20)
         for method, path, body in (('GET', '/', b'hello'), ('HEAD', '/', b''), ('GET', '/?a=b', b'hello')):
@@ -96,7 +96,7 @@ def kept():
 
 
 def refused():
-    """What has no page, or can't be read."""
+    """Checks requests that have no page or can't be read."""
     with hello(2) as run:
         with run.connect() as line:
             line.sendall(b'GET /nothing HTTP/1.1\r\nHost: a\r\n\r\nPOST / HTTP/1.1\r\nHost: a\r\nContent-Length: 0\r\n\r\nGET /\r\n\r\n')
@@ -111,7 +111,7 @@ def refused():
 
 
 def large():
-    """A page of many pieces, and the same asked for its head alone."""
+    """Checks a page that is sent in many pieces, and a HEAD request for it."""
     with hello(1) as run:
         line = http.client.HTTPConnection('127.0.0.1', run.port, timeout=20)
         for method, size in (('GET', LARGE), ('HEAD', 0)):
@@ -123,7 +123,7 @@ def large():
 
 
 def asked(line):
-    """The page that came on a connection that is then ended, and the seconds until it did."""
+    """Requests a page on a connection that then ends. Returns the page, and the seconds until it came."""
     began = time.monotonic()
     line.sendall(b'GET / HTTP/1.0\r\n\r\n')
     page = read_all(line)
@@ -133,12 +133,13 @@ def asked(line):
 
 
 def in_time(name, seconds, most):
-    """Whether it took no longer; half a second more is for a machine that is busy."""
+    """Checks that it took no longer than `most`. Half a second more is allowed, since the machine may be busy."""
     return None if seconds <= most + 0.5 else Late('%s: %.2f seconds, not %.2f' % (name, seconds, most))
 
 
 def waited_for():
-    """Clients that send nothing, half a head or half a body hold nobody up, and are let go."""
+    """Checks that clients that send nothing, half a head or half a body delay nobody, and that their connections are
+    closed."""
     halves = b'', b'GET / HTT', b'POST / HTTP/1.1\r\nHost: a\r\nContent-Length: 9\r\n\r\nname'
     with hello(2 * len(halves)) as run:
         for half in halves:
@@ -152,7 +153,7 @@ def waited_for():
 
 
 def dripped():
-    """A client that sends a byte from time to time holds nobody up."""
+    """Checks that a client that sends a byte from time to time delays nobody."""
     drips = b'GET / HTTP/1.1', b'POST / HTTP/1.1\r\nHost: a\r\nContent-Length: 99\r\n\r\nname=Ann'
     with hello(3 * len(drips)) as run:
         for drip in drips:
@@ -172,8 +173,9 @@ def dripped():
 
 
 def let_go():
-    """A connection that is kept and brings nothing is let go a moment behind its reply; one that brings the front of a
-    request with the one before it, or a later request cut into pieces, is waited for."""
+    """Checks that a kept connection on which nothing comes is closed a moment after its reply. If the front of a
+    request came together with the request before it, or if a later request comes in pieces, the program waits for the
+    rest."""
     ask = b'GET / HTTP/1.1\r\nHost: a\r\n\r\n'
     form = b'POST /none HTTP/1.1\r\nHost: a\r\ncontent-length: 4\r\n\r\na=bc'
     with hello(7) as run:
@@ -194,8 +196,8 @@ def let_go():
 
 
 def taken_in_turn():
-    """Ten clients with a connection each, which they keep as long as it is kept, wait 0.15 seconds for a page on the
-    average."""
+    """Checks that ten clients wait at most 0.15 seconds for a page on average. Each uses one connection as long as it
+    is kept open."""
     clients, pages, times = 10, 6, []
 
     def client(run, place):
@@ -225,7 +227,7 @@ def taken_in_turn():
 
 
 def gone():
-    """Clients that go away, some of them while their reply is written, end their own connection alone."""
+    """Checks that clients that disconnect, some of them while their reply is written, end only their own connection."""
     asks = b'GET /large HTTP/1.1\r\nHost: a\r\n\r\n' * 100
     with hello(3) as run:
         with run.connect() as line:
@@ -242,8 +244,8 @@ def gone():
 
 
 def not_taken():
-    """A client that doesn't take its replies holds up the next one for three seconds, and is let go then; one that takes
-    a large page slowly gets it whole."""
+    """Checks that a client that doesn't read its replies delays the next one for three seconds and is then
+    disconnected, and that a client that reads a large page slowly gets all of it."""
     asks = b'GET /large HTTP/1.1\r\nHost: a\r\n\r\n' * 200
     with hello(4) as run:
         with run.connect(room=4096) as idle, run.connect() as line:
@@ -271,7 +273,8 @@ ASKS = 60
 
 
 def drip(lines, byte, over):
-    """Sends a byte on each connection every half second, until it is over or the connection is."""
+    """Sends a byte on each connection every half second until `over` is set. Connections that have ended are
+    ignored."""
     while not over.wait(0.5):
         for line in lines:
             with contextlib.suppress(OSError):
@@ -280,7 +283,7 @@ def drip(lines, byte, over):
 
 @contextlib.contextmanager
 def dripping(lines, byte):
-    """Drips on these connections meanwhile."""
+    """Sends bytes slowly on these connections while the block runs."""
     over = threading.Event()
     thread = threading.Thread(target=drip, args=(lines, byte, over))
     thread.start()
@@ -292,8 +295,8 @@ def dripping(lines, byte):
 
 
 def beside(name, count, front, byte):
-    """One client's pages beside a crowd, each of which brought a front of a request, and drips the rest of it. What a
-    plain server takes meanwhile isn't counted."""
+    """Measures one client's pages while many other clients have each sent the front of a request and send the rest
+    slowly. The time that a plain server takes meanwhile is subtracted."""
     with hello(count + ASKS) as run, Plain() as plain, contextlib.ExitStack() as lines:
         crowd = [lines.enter_context(run.connect()) for _ in range(count)]
         for line in crowd:
@@ -328,8 +331,8 @@ def beside_bodies():
 
 
 def late_request():
-    """A connection that is idle for two of its three seconds is answered, and so is a long form in two parts; one that
-    brings the front of a request alone is let go, and that is told."""
+    """Checks that a connection that is idle for two of its three seconds is answered, and so is a long form in two
+    parts. A connection that sends only the front of a request is closed, and a message says so."""
     with hello(3) as run:
         with run.connect() as idle, run.connect() as form, run.connect() as never:
             form.sendall(HALF_FORM % 9000 + b'a=' + b'b' * 4000)
@@ -345,8 +348,9 @@ def late_request():
 
 
 def many():
-    """Connections one after another, as many as come in fifteen seconds and at most 100,000: neither descriptors nor
-    memory grow. Of eight in turn one asks, one goes away at once, and the others bring a part of a request."""
+    """Makes connections one after another, as many as possible in fifteen seconds, at most 100,000. Neither descriptors
+    nor memory may grow. Of eight connections in turn, one sends a request, one disconnects at once, and the others send
+    a part of a request."""
     fronts = b'', b'GET / HT', HALF_FORM % 9000 + b'a=' * 300, b'GET / HTTP/1.0\r\n\r\n', b'\r\n', b'G', b'GET /', b'P'
     with hello(1_000_000) as run:
         def held():
@@ -376,7 +380,8 @@ def many():
 
 
 def burst():
-    """Three hundred clients connect while another holds the program up, and each has its page."""
+    """Checks that three hundred clients each get their page if they connect while another client holds the program
+    up."""
     asks = b'GET /large HTTP/1.1\r\nHost: a\r\n\r\n' * 200
     with hello(301) as run, contextlib.ExitStack() as lines:
         slow = lines.enter_context(run.connect(room=4096))
@@ -411,7 +416,7 @@ os.execv(words[0], words)
 
 @contextlib.contextmanager
 def handed_in(kind, whose, port, count):
-    """A run that is started with a descriptor 3: a socket that listens on a port, or a file."""
+    """Starts a run with a descriptor 3: a socket that listens on a port, or a file."""
     with tempfile.TemporaryDirectory() as folder:
         with open(os.path.join(folder, 'app'), 'wb') as app:
             app.write(HELLO)
@@ -431,8 +436,8 @@ def handed_in(kind, whose, port, count):
 
 
 def inherited():
-    """A socket that is handed in as systemd does it is served; one for another process isn't looked at; one that listens
-    elsewhere, and what is no socket, are refused."""
+    """Checks that a socket that is passed on as systemd does it is used. One for another process is ignored. One that
+    listens on another port is refused, and so is a descriptor that is no socket."""
     port, other = free_port(), free_port()
     for name, kind, whose in ('handed in', str(port), 'own'), ('handed to another', str(other), 'another'):
         with handed_in(kind, whose, port, 1) as run:
@@ -460,7 +465,7 @@ def taken_port():
 
 
 def told():
-    """What is told on standard error: where it listens, and what the system said of a file."""
+    """Checks the messages on standard error: where the program listens, and what the system said about a file."""
     with hello(1) as run:
         with run.connect() as line:
             asked(line)
@@ -485,7 +490,7 @@ def told():
 
 
 def audits():
-    """An audit goes on behind what its file holds."""
+    """Checks that an audit is appended to what its file holds."""
     with tempfile.TemporaryDirectory() as folder:
         name = os.path.join(folder, 'audit')
         for lines in (1, 2):
@@ -503,13 +508,15 @@ def curl(*words):
 
 
 def followed(name, page):
-    """Whether a redirect was followed on the connection that brought it. A late curl has to make another one."""
+    """Checks that a redirect was followed on the connection that it came on. A curl that is late has to make another
+    connection."""
     told = page.splitlines()[-1]
     return None if told == '200 1 1' else (Late if told == '200 1 2' else str)('%s: %r, not 200 1 1' % (name, told))
 
 
 def forms():
-    """A browser's forms, by curl: cookies say who asks, and a redirect is followed on the kept connection."""
+    """Checks a browser's forms, with curl: cookies say who the viewer is, and a redirect is followed on the kept
+    connection."""
     with tempfile.TemporaryDirectory() as folder:
         options = '--sessions', 'sessions', '--audit', os.path.join(folder, 'audit')
         with served(PROGRAM, 'app', 6, CALENDAR, options) as run:

@@ -1,9 +1,10 @@
 #!/usr/bin/env python3
-"""Runs the built program over stores in files, which are read and spoilt with Python's module sqlite3: what a run
-leaves is there in the next, in the bytes that docs/USING.md tells; what is damaged, or another application's, is told and
-left; what was answered before a run was killed is kept; and a store whose upgrade was killed is the old one or the new
-one. Words: the program, and how many runs to kill of each kind, 50 of those that serve and 100 of upgrades if not said.
-Prints each case that fails, and what an upgrade of 10,000 records took, and ends with a count."""
+"""Runs the built program over stores in files, which Python's module sqlite3 reads and damages. What a run leaves must
+be there in the next run, in the bytes that docs/USING.md describes. A store that is damaged or belongs to another
+application must be reported and left alone. What was answered before a run was killed must be kept. A store whose
+upgrade was killed must be the old one or the new one. Arguments: the program, and how many runs of each kind to kill
+(by default 50 that serve and 100 upgrades). Prints each failed case, and how long an upgrade of 10,000 records took,
+then a count."""
 import contextlib
 import glob
 import http.client
@@ -26,7 +27,7 @@ WORDS = proved.words(kills={'metavar': 'N', 'nargs': '?', 'type': int,
                             'help': 'how many runs of each kind are killed (50 that serve, 100 upgrades)'})
 PROGRAM = proved.program(WORDS.program)
 TOP = os.path.dirname(os.path.dirname(os.path.abspath(__file__)))
-# the script copies a store before its upgrade; beside any other program it is done as the script does it
+# the script copies a store before its upgrade; for any other program, store_copies.py is called as the script calls it
 IS_SCRIPT = proved.is_script(PROGRAM) or PROGRAM == proved.PROVED
 UPGRADE = [os.path.join(TOP, 'jac')] if IS_SCRIPT else [
     sys.executable, os.path.join(TOP, 'tools', 'store_copies.py'), 'upgrade', PROGRAM]
@@ -52,7 +53,7 @@ PLAIN = CALENDAR % b''
 WITH_NOTES = CALENDAR % b' (model Note (fields (body text)))'
 SCHEMA = '(schema (model User (fields (name text)) (groups))' \
          ' (model Event (fields (title text) (host (ref User)) (open bool)) (groups (title)))%s)'
-# a reminder is made around each event, a draft is there for the event's host alone, and one group guards two fields
+# a reminder is made around each event, only an event's host is shown its drafts, and one group guards two fields
 SHAPED = (CALENDAR % b''' (model Remind nested (fields (about (ref Event))))
  (model Draft (fields (of (ref Event)))
   (group hides (policy (eq (get Event host (get Draft of this)) viewer))))
@@ -72,14 +73,14 @@ TOLD = b'reply 200 "" "4096"\nreply 200 "" "8192"\nreply 200 "" "12289"\n'
 NAMES = b'ask - GET "/names" ""\n'
 LIST = b'ask 4096 GET "/list" ""\nask 8192 GET "/list" ""\n'
 LISTED = b'reply 200 "" "raid;"\nreply 200 "" "private;"\n'
-# the next version: a place of each event, names for their bearers alone, and a further model
+# the next version: events get a place, names are shown only to their bearers, and there is one more model
 NEXT = WITH_NOTES.replace(b'(open bool))', b'(open bool) (place text))').replace(
     b'(fields (name text)))', b'(fields (name text)) (group (guards (name "someone")) (policy (eq this viewer))))')
 RENEWED = '(schema (model User (fields (name text)) (groups (name)))' \
           ' (model Event (fields (title text) (host (ref User)) (open bool) (place text)) (groups (title)))' \
           ' (model Note (fields (body text)) (groups)))'
 LAST = 2 ** 40
-# What is done to a store so that it is refused, and what is said of it then.
+# What is done to a store so that it is refused, and what the message then says.
 EXPLAINED = {
     'auto_vacuum': (['PRAGMA journal_mode = delete', 'PRAGMA auto_vacuum = FULL', 'VACUUM'], 'd is a database with auto_vacuum'),
     'number 0': (['UPDATE meta SET number = 0'], 'the number of d is 0, and its records ask for 4 at least'),
@@ -95,7 +96,7 @@ EXPLAINED = {
 
 
 class Folder:
-    """A folder with a store `d`, and runs of the program in it."""
+    """A folder with a store `d`, in which the program is run."""
 
     def __init__(self, folder):
         self.folder = folder
@@ -106,7 +107,7 @@ class Folder:
             handle.write(data)
 
     def replay(self, events, app=PLAIN, store='d'):
-        """The status and the output of a replay over the store."""
+        """Replays events over the store. Returns the status and the output."""
         self.write('a', app)
         self.write('e', events)
         done = subprocess.run([PROGRAM, 'replay', 'a', 'e', '--db', store], cwd=self.folder, timeout=120,
@@ -114,13 +115,13 @@ class Folder:
         return done.returncode, done.stdout
 
     def run(self, *words):
-        """The status and the output of a run of any other command."""
+        """Runs any other command. Returns the status and the output."""
         done = subprocess.run([PROGRAM, *words], cwd=self.folder, timeout=120, stdin=subprocess.DEVNULL,
                               stdout=subprocess.PIPE)
         return done.returncode, done.stdout
 
     def told(self):
-        """What a replay over the store says on standard error."""
+        """Returns what a replay over the store prints on standard error."""
         self.write('a', PLAIN)
         self.write('e', NAMES)
         done = subprocess.run([PROGRAM, 'replay', 'a', 'e', '--db', 'd'], cwd=self.folder, timeout=120,
@@ -128,7 +129,8 @@ class Folder:
         return done.stderr
 
     def read(self, query):
-        """What a query gives of a copy of the store, so that the program itself takes up what a run left."""
+        """Returns the result of a query on a copy of the store. So it is the program itself that recovers what a run
+        left."""
         with tempfile.TemporaryDirectory() as copies:
             for file in glob.glob(self.store + '*'):
                 shutil.copy(file, copies)
@@ -142,7 +144,7 @@ class Folder:
             database.commit()
 
     def content(self):
-        """All that the store holds, and which tables it has."""
+        """Returns all that the store holds, and which tables it has."""
         tables = self.read('SELECT name, sql FROM sqlite_master ORDER BY name')
         return tables, [self.read('SELECT * FROM %s' % name) for name, sql in tables if sql and 'TABLE' in sql]
 
@@ -164,7 +166,7 @@ def guard(*pairs):
 
 
 def kept(at):
-    """Two runs over one store: the second has the records of the first, and goes on with its number."""
+    """Checks two runs over one store. The second has the records of the first, and continues with its number."""
     yield expect('a new store', at.replay(STORY), (0, TOLD))
     again = b'ask - POST "/join" "name=Cid"\n' + NAMES + LIST
     yield expect('a store again', at.replay(again), (0, b'reply 200 "" "16384"\nreply 200 "" "Ann;Bob;Cid;"\n' + LISTED))
@@ -172,7 +174,7 @@ def kept(at):
 
 
 def spelled(at):
-    """The rows of a store, byte for byte."""
+    """Checks the rows of a store, byte for byte."""
     at.replay(STORY)
     yield expect('the table meta', at.read('SELECT k, number, schema FROM meta'), [(0, 4, STORED)])
     users = [(0, number(4096), 0, b'', text(b'Ann')), (0, number(8192), 0, b'', text(b'Bob'))]
@@ -185,8 +187,9 @@ def spelled(at):
 
 
 def shaped(at):
-    """A record of a loop is one row with no guard, whose number has that of the loop's record before its own, though that
-    record has two alternatives; a hidden record has no public row."""
+    """Checks that a record of a loop is one row without a guard, although the loop's record has two alternatives,
+    and that the number of the loop's record precedes its own in its id. Also checks that a hidden record has no
+    public row."""
     at.replay(STORY + b'ask - POST "/remind" ""\nask 4096 POST "/draft" "e=12289"\n', app=SHAPED)
     yield expect('the schema of shapes', at.read('SELECT schema FROM meta'), [(SCHEMA % SHAPES,)])
     event = b'\x04\x01' + number(12289)
@@ -197,7 +200,7 @@ def shaped(at):
 
 
 def made_by_hand(at):
-    """A store that Python made is served."""
+    """Checks that a store that Python made can be used."""
     at.alter(
         'CREATE TABLE meta(k INTEGER PRIMARY KEY, number INTEGER NOT NULL, schema TEXT NOT NULL) STRICT',
         'CREATE TABLE rec(model INTEGER NOT NULL, jid BLOB NOT NULL, alt INTEGER NOT NULL, jvars BLOB NOT NULL,'
@@ -210,7 +213,7 @@ def made_by_hand(at):
 
 
 def damaged(at):
-    """Stores with a row that can't stand there: they are refused, whatever is asked, and left as they were."""
+    """Checks stores with an invalid row. Whatever is requested, they are refused and left as they were."""
     event = "x'%s'" % number(12289).hex()
     spoils = {
         'a body that lacks its last byte': "UPDATE rec SET body = x'%s' WHERE model = 0" % text(b'Ann')[:-1].hex(),
@@ -245,7 +248,7 @@ def damaged(at):
 
 
 def left_alone(other, name, events):
-    """The store is refused, its content stays, and nothing is left beside it."""
+    """Checks that the store is refused, that its content stays, and that nothing is left beside it."""
     before, beside = other.content(), sorted(os.listdir(other.folder))
     yield expect(name, other.replay(events), (6, b'store fault\n'))
     yield expect(name + ', afterwards', other.content(), before)
@@ -253,7 +256,7 @@ def left_alone(other, name, events):
 
 
 def refused(at):
-    """Stores that aren't attached, and are left as they were."""
+    """Checks stores that can't be attached. They are left as they were."""
     spoils = {
         'number 0': 'UPDATE meta SET number = 0',
         'a number past the last': 'UPDATE meta SET number = %d' % (LAST + 1),
@@ -275,7 +278,7 @@ def refused(at):
 
 
 def missing(at):
-    """A dump of a store that isn't there says so, and makes none."""
+    """Checks that a dump of a store that doesn't exist says so, and makes no store."""
     at.write('a', PLAIN)
     done = subprocess.run([PROGRAM, 'dump', 'a', '-', '--db', 'd'], cwd=at.folder, timeout=120, stdin=subprocess.DEVNULL,
                           stdout=subprocess.PIPE, stderr=subprocess.PIPE)
@@ -285,7 +288,7 @@ def missing(at):
 
 
 def full_pipe():
-    """A pipe that takes no more bytes, by its two ends."""
+    """Returns the two ends of a pipe that takes no more bytes."""
     reads, writes = os.pipe()
     os.set_blocking(writes, False)
     with contextlib.suppress(BlockingIOError):
@@ -296,7 +299,7 @@ def full_pipe():
 
 
 def until(holds, seconds=20):
-    """Whether it holds within the time."""
+    """Waits until `holds()` is true. Returns whether it became true in time."""
     end = time.monotonic() + seconds
     while time.monotonic() < end:
         if holds():
@@ -306,14 +309,15 @@ def until(holds, seconds=20):
 
 
 def is_waiting_to_write(run):
-    """Whether the process is at a write that its full pipe doesn't take, by Linux's name for that place."""
+    """Returns whether the process is waiting at a write to its full pipe, by Linux's name for that place."""
     with open('/proc/%d/wchan' % run.pid) as place, open('/proc/%d/stat' % run.pid) as stat:
         return 'pipe_write' in place.read() or stat.read().rpartition(')')[2].split()[0] == 'S'
 
 
 def refused_beside_a_serve(at, words):
-    """A run that is refused, since the store isn't there, and that can't write its last line until another run has made
-    the store and answered joins. The refused run ends, and the other is killed: what it answered is kept."""
+    """Checks a run that is refused because the store doesn't exist, and that can't write its last line until another
+    run has made the store and answered joins. The refused run ends, and the other run is killed. What the other run
+    answered must be kept."""
     at.write('a', PLAIN)
     at.write('n', NEXT)
     name, form = 'beside a refused %s: ' % words[0], {'Content-Type': 'application/x-www-form-urlencoded'}
@@ -340,17 +344,17 @@ def refused_beside_a_serve(at, words):
 
 
 def refused_dump(at):
-    """A dump that is refused leaves the log of a run that began meanwhile."""
+    """Checks that a dump that is refused leaves the log of a run that began meanwhile."""
     return refused_beside_a_serve(at, ('dump', 'a', '-'))
 
 
 def refused_upgrade(at):
-    """So does an upgrade."""
+    """Checks the same for an upgrade."""
     return refused_beside_a_serve(at, ('upgrade', 'a', 'n'))
 
 
 def held(at):
-    """A store that another program holds is told apart from one that is damaged."""
+    """Checks that the message for a store that another program holds differs from the one for a damaged store."""
     at.replay(STORY)
     with contextlib.closing(sqlite3.connect(at.store)) as database:
         database.execute('BEGIN IMMEDIATE')
@@ -359,7 +363,7 @@ def held(at):
 
 
 def full(at):
-    """At its last number a store is read, and takes nothing more."""
+    """Checks that a store at its last number can be read, and takes nothing more."""
     at.replay(STORY)
     at.alter('UPDATE meta SET number = %d' % LAST)
     out = b'reply 200 "" "Ann;Bob;"\nreply 507 "" "507 Insufficient Storage\\n"\n'
@@ -367,7 +371,7 @@ def full(at):
 
 
 def of_another(at):
-    """A store of another application is told, and left."""
+    """Checks that a store of another application is reported and left alone."""
     at.replay(STORY)
     before = at.content()
     line = ('other schema: %s | %s\n' % (STORED, WANTED)).encode()
@@ -380,7 +384,7 @@ def of_another(at):
 
 
 def of_another_program(at):
-    """A database with tables of another program is refused, and left."""
+    """Checks that a database with tables of another program is refused and left alone."""
     at.alter('CREATE TABLE notes(body TEXT)', "INSERT INTO notes VALUES('seen')")
     before = at.content()
     yield expect('tables of another program', at.replay(NAMES), (6, b'store fault\n'))
@@ -388,7 +392,8 @@ def of_another_program(at):
 
 
 def explained(at, name):
-    """What is said of a store that the program refused, and that its file and what is beside it stay as they are."""
+    """Reads what is said about a store that the program refused, into `at.said`. Checks that its file and the files
+    beside it stay as they are."""
     at.write('a', PLAIN)
     at.write('e', NAMES)
     status = subprocess.run([PROGRAM, 'replay', 'a', 'e', '--db', 'd'], cwd=at.folder, timeout=120,
@@ -403,7 +408,8 @@ def explained(at, name):
 
 
 def explained_refusals(at):
-    """Of each store that is refused standard error says what it is; and what it says to do brings the store back."""
+    """Checks that standard error says for each refused store what it is, and that the suggested command makes the store
+    usable again."""
     for name, (spoils, want) in EXPLAINED.items():
         with fresh() as other:
             other.replay(STORY)
@@ -423,7 +429,8 @@ HOLD = "import sqlite3, sys; held = sqlite3.connect('d'); held.execute('BEGIN IM
 
 
 def explained_holder(at):
-    """Which process has a store open is said. It is another one, since who closes a file lets its own locks go."""
+    """Checks that the message names the process that has a store open. Another process holds it, since a process that
+    closes a file loses its own locks on it."""
     at.replay(STORY)
     holder = subprocess.Popen([sys.executable, '-c', HOLD], cwd=at.folder, stdin=subprocess.PIPE, stdout=subprocess.PIPE)
     with holder:
@@ -434,7 +441,8 @@ def explained_holder(at):
 
 
 def explained_journal(at):
-    """A change that another program left undone is told, and undone by the command that is said."""
+    """Checks that a change that another program left unfinished is reported, and that the suggested command undoes
+    it."""
     at.replay(STORY)
     at.alter('PRAGMA journal_mode = delete')
     with fresh() as other, contextlib.closing(sqlite3.connect(at.store)) as database:
@@ -450,7 +458,7 @@ def explained_journal(at):
 
 
 def renamed(at):
-    """A store whose schema was written anew, as USING says, is one of the application with the other names."""
+    """Checks that a store whose schema was rewritten as USING says belongs to the application with the other names."""
     at.replay(STORY)
     app = PLAIN.replace(b'name', b'called').replace(b'Event', b'Meeting')
     at.write('n', app)
@@ -468,7 +476,8 @@ def renamed(at):
 
 
 def taken_out(at):
-    """A row that can't stand there is found and taken out by the commands of USING, and the store is served again."""
+    """Checks that an invalid row is found and removed by the commands of USING, and that the store can then be used
+    again."""
     at.replay(STORY)
     at.alter("UPDATE rec SET jvars = x'00' WHERE model = 1 AND alt = 0")
     row = re.search(rb'row (\d+) of rec', at.told())
@@ -482,7 +491,7 @@ def taken_out(at):
 
 
 def renewed(at):
-    """One request stores each public value anew, as USING says."""
+    """Checks that one request stores each public value anew, as USING says."""
     at.replay(STORY)
     text = PLAIN.replace(b'"private"', b'"busy"').rstrip()[:-1] + b"""
  (view post "/renew" (params)
@@ -494,7 +503,7 @@ def renewed(at):
 
 
 def replay_killed(at, pause):
-    """Replays many joins, kills the run after a while, and gives how many were answered."""
+    """Replays many joins and kills the run after a while. Returns how many were answered."""
     at.write('a', PLAIN)
     at.write('e', b'ask - POST "/join" "name=Ann"\n' * 20000)
     with open(os.path.join(at.folder, 'out'), 'wb') as out:
@@ -508,12 +517,12 @@ def replay_killed(at, pause):
 
 
 def serve_killed(at, pause):
-    """Asks for many joins on one connection, kills the run after a while, and gives how many were answered."""
+    """Sends many joins on one connection and kills the run after a while. Returns how many were answered."""
     at.write('a', PLAIN)
     answered, form = 0, {'Content-Type': 'application/x-www-form-urlencoded'}
     with served(PROGRAM, 'a', 1, at.folder, ('--db', 'd')) as run:
         line = http.client.HTTPConnection('127.0.0.1', run.port, timeout=10)
-        # The signal is sent from beside the loop, so that it falls at any point of a request.
+        # Another process sends the signal, so that it may come at any point of a request.
         killer = subprocess.Popen(['sh', '-c', 'sleep %f; kill -9 %d' % (pause, run.run.pid)])
         with contextlib.suppress(OSError, http.client.HTTPException):
             while True:
@@ -525,8 +534,8 @@ def serve_killed(at, pause):
 
 
 def killed(at):
-    """Runs over one store that are killed at a random moment: each answer that was given is kept, at most one join
-    more, and no record in part."""
+    """Checks runs over one store that are killed at a random moment. Each answered join must be kept, at most one more,
+    and no record in part."""
     ways = replay_killed, serve_killed
     known, randomness, deadline = 0, random.Random(7), time.monotonic() + 400
     for turn in range(KILLS):
@@ -547,7 +556,8 @@ def killed(at):
 
 
 def upgraded(at):
-    """The rows of a store that was upgraded, byte for byte; one that isn't upgraded is left."""
+    """Checks the rows of a store that was upgraded, byte for byte. A store whose upgrade is refused must be left
+    alone."""
     at.write('n', NEXT)
     at.replay(STORY)
     yield expect('an upgrade', at.run('upgrade', 'a', 'n', '--db', 'd'), (0, b'upgraded 3 records\n'))
@@ -584,7 +594,7 @@ def upgraded(at):
 
 
 def upgrade_with_a_copy(at, **given):
-    """The status, the output and what standard error says of an upgrade by the script."""
+    """Upgrades a store by the script. Returns the status, the output and standard error."""
     done = subprocess.run([*UPGRADE, 'upgrade', 'a', 'n', '--db', 'd'], cwd=at.folder, timeout=120,
                           stdin=subprocess.DEVNULL, stdout=subprocess.PIPE, stderr=subprocess.PIPE, **given)
     return done.returncode, done.stdout, done.stderr
@@ -595,7 +605,7 @@ def copies_in(at):
 
 
 def bytes_of(path):
-    """What a file holds, or None where it isn't there."""
+    """Returns what a file holds, or None if it doesn't exist."""
     if not os.path.exists(path):
         return None
     with open(path, 'rb') as file:
@@ -603,13 +613,14 @@ def bytes_of(path):
 
 
 def no_more_bytes():
-    """Lets a process write no byte into files."""
+    """Prevents the process from writing any byte into files."""
     signal.signal(signal.SIGXFSZ, signal.SIG_IGN)
     resource.setrlimit(resource.RLIMIT_FSIZE, (0, 0))
 
 
 def copied_before(at):
-    """An upgrade by the script keeps a copy of the store, with what is in its log alone, under the first free name."""
+    """Checks that an upgrade by the script keeps a copy of the store under the first free name. The copy has what was
+    only in the store's log."""
     at.write('n', NEXT)
     at.write('a', PLAIN)
     yield expect('no store', upgrade_with_a_copy(at)[:2], (6, b'store fault\n'))
@@ -638,7 +649,7 @@ def copied_before(at):
 
 
 def copied_with_its_log(at):
-    """What a run that was killed left in the log alone is in the copy, byte for byte."""
+    """Checks that the copy has what a killed run left only in the log, byte for byte."""
     at.write('n', NEXT)
     at.write('a', PLAIN)
     with served(PROGRAM, 'a', 2, at.folder, ('--db', 'd')) as serve:
@@ -655,7 +666,7 @@ def copied_with_its_log(at):
 
 
 def piped(at):
-    """The script refuses a store that is a pipe, and doesn't wait for who writes to it."""
+    """Checks that the script refuses a store that is a pipe, and doesn't wait for a writer."""
     at.write('a', PLAIN)
     os.mkfifo(at.store)
     for words in (('--db', 'd'), ('--db=d',)) if IS_SCRIPT else ():
@@ -665,8 +676,8 @@ def piped(at):
 
 
 def many(at, count):
-    """Makes a store of so many records, half of them closed events, and gives what dumps put before an upgrade and behind
-    it, while no label is shown."""
+    """Makes a store of `count` records, half of them closed events. Returns what dumps print before and after an
+    upgrade if no label is shown."""
     users = [4096 * join for join in range(1, count // 2 + 1)]
     events = [4096 * add + 1 for add in range(count // 2 + 1, count + 1)]
     rows = [(0, number(user), 0, b'', text(b'Ann %d' % user)) for user in users]
@@ -698,8 +709,8 @@ def upgrade_killed(at, pause):
 
 
 def upgrades_killed(at):
-    """Upgrades of 2,000 records that are killed at a random moment: behind each the store is what it was, or what it is
-    to be, as both applications tell it."""
+    """Checks upgrades of 2,000 records that are killed at a random moment. After each, the store must be the old one or
+    the new one, by the dumps of both applications."""
     old, new = many(at, 2000)
     saved = os.path.join(at.folder, 'saved')
     os.rename(at.store, saved)
@@ -735,7 +746,7 @@ def upgrades_killed(at):
 
 
 def upgrade_of_many(at):
-    """An upgrade of 10,000 records, with its time."""
+    """Checks an upgrade of 10,000 records, and prints how long it took."""
     _, new = many(at, 10000)
     began, used = time.monotonic(), resource.getrusage(resource.RUSAGE_CHILDREN).ru_utime
     yield expect('an upgrade of 10,000 records', at.run('upgrade', 'a', 'n', '--db', 'd'), (0, b'upgraded 10000 records\n'))

@@ -1,9 +1,9 @@
 #!/usr/bin/env python3
-"""Looks at the form of the code and of the definitions: lines within 100 columns, at most 7 arguments a function, no
-module named by a gerund, no public word of specs/ in two files, and no bare participle as such a word. What doesn't pass
-yet stands in checks/style.txt, with how often; that list may only get shorter: where something is new or more often, and
-where an entry is more than is needed, this says so, and its status is 1. With the word --write it takes out of the list
-what is no longer needed, and adds nothing."""
+"""Checks the form of the code and of the definitions: lines of at most 100 columns, at most 7 arguments for a function,
+no module named by a gerund, no public name of specs/ in two files, and no bare participle as such a name.
+checks/style.txt lists what breaks these rules, and how often. That list may only get shorter. If something is new or
+more frequent, or if an entry allows more than is needed, this says so and ends with status 1. With --write it removes
+from the list what is no longer needed, and adds nothing."""
 import collections
 import os
 import re
@@ -16,32 +16,31 @@ from testing import crates, paths                                           # no
 
 LIST = 'checks/style.txt'
 COLUMNS, ARGUMENTS = 100, 7
-# What brings names in, and what says which tactics prove a crate or a function, stands on one line, as `rt fmt` lays it
-# out.
+# Imports, and attributes that name the tactics for a crate or a function, are on one line, as `rt fmt` lays them out.
 IMPORT = re.compile(r'\s*(?:ghost use|pub use|use) |\s*#!?\[tactic\(')
 FUNCTION = re.compile(r'\bfn (\w+)')
 MODULE = re.compile(r'(?m)^(?:pub )?mod (\w+)')
 GERUND = re.compile(r'[a-z]+ing$')
 PARTICIPLE = re.compile(r'[a-z]+(?:ed|en|own)$')
-# Words that end like one and are none, and modules that are nouns.
+# Words that end like a gerund or a participle but are none, and modules that are nouns.
 NOUNS = {'expanded_seed', 'seed', 'need', 'token', 'down', 'own', 'open', 'string', 'routing', 'spelling', 'meaning',
          'reading', 'nothing', 'thing', 'opening', 'ending', 'binding', 'hearing', 'answering', 'serving', 'words'}
 ABOUT = {
     'wide': 'lines of %s are wider than %d columns' % ('%s', COLUMNS),
     'arguments': '%%s takes more than %d arguments' % ARGUMENTS,
     'gerund': 'module %s is named by a gerund',
-    'twice': 'the word %s of specs/ stands in more files than one of',
+    'twice': 'the word %s of specs/ is in more than one file',
     'participle': 'the word %s of specs/ is a bare participle',
 }
 
 
 def wide_lines(text):
-    """How many lines are too wide, but for those that the layout keeps whole."""
+    """Returns how many lines are too wide, without those that the layout keeps on one line."""
     return sum(1 for line in text.split('\n') if len(line) > COLUMNS and not IMPORT.match(line))
 
 
 def closing(text, start):
-    """The place behind the bracket that closes the one at this place."""
+    """Returns the place after the bracket that closes the one at this place."""
     depth, pairs = 0, {'(': 1, '[': 1, '{': 1, ')': -1, ']': -1, '}': -1}
     for place in range(start, len(text)):
         depth += pairs.get(text[place], 0)
@@ -51,7 +50,7 @@ def closing(text, start):
 
 
 def arguments(text, start):
-    """How many arguments the function has whose name ends at this place."""
+    """Returns how many arguments the function has whose name ends at this place."""
     place = start
     if text[place:place + 1] == '<':
         depth = 0
@@ -133,14 +132,14 @@ def complaints(found, entries):
     for kind, name in sorted(set(found) | set(entries)):
         now, may = found[kind, name], entries[kind, name]
         if now > may:
-            yield '%s: %d, and %d may' % (ABOUT[kind] % name, now, may)
+            yield '%s: %d, and at most %d are allowed' % (ABOUT[kind] % name, now, may)
         if now < may:
             yield '%s lets pass more than there is: %s %s %d, now %d' % (LIST, kind, name, may, now)
 
 
 def main():
     parser = script_parser()
-    parser.add_argument('--write', action='store_true', help='take out of the list what is no longer needed')
+    parser.add_argument('--write', action='store_true', help='remove from the list what is no longer needed')
     write = parser.parse_args().write
     found = everything()
     entries = allowed()

@@ -1,6 +1,6 @@
 #!/usr/bin/env python3
-"""Counts what is proved and tested, by storey of crates.txt, and compares the counts with docs/TESTING.md: where the page
-is out of date it says so, and its status is 1. With the word --write it writes the page's tables anew."""
+"""Counts what is proved and tested, by storey of crates.txt, and compares the counts with docs/TESTING.md. If the page
+is out of date, this says so and ends with status 1. With --write it rewrites the page's tables."""
 import os
 import re
 import sys
@@ -17,7 +17,7 @@ COLUMNS = ('lines', 'functions', 'public', 'clauses', 'definitions', 'lemmas', '
 
 
 def paths(crate, part, end):
-    """The files of a part of a crate, as paths from the top."""
+    """Yields the files of a part of a crate, as paths from the top."""
     for folder, _, files in os.walk(os.path.join(TOP, 'crates', crate, part)):
         for file in sorted(files):
             if file.endswith(end):
@@ -33,7 +33,7 @@ def definitions(found, crate):
 
 
 def of_crate(crate):
-    """The counts of COLUMNS."""
+    """Returns the counts of COLUMNS for a crate."""
     sources = list(paths(crate, 'src', '.rt'))
     tests = [path for path in sources if '#[test]' in read(path)]
     code = joined(path for path in sources if path not in tests)
@@ -52,7 +52,7 @@ def crates():
 
 
 def storeys():
-    """The storeys of crates.txt, as (heading, crates)."""
+    """Returns the storeys of crates.txt, as (heading, crates)."""
     found = []
     for line in read('crates.txt').split('\n'):
         if line.startswith('# ') and line[2:3].isdigit():
@@ -67,7 +67,7 @@ def summed(counts):
 
 
 def table(counts):
-    """A row for each storey, of the counts by crate, and their sums."""
+    """Returns a table with a row for each storey, which sums the counts of its crates, and a row for all."""
     lines = ['| Storey | %s |' % ' | '.join(COLUMNS), '|---' * (len(COLUMNS) + 1) + '|']
     rows = [(heading, summed(counts[name] for name in names)) for heading, names in storeys()]
     rows.append(('**all**', summed(counts.values())))

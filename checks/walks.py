@@ -1,10 +1,10 @@
 #!/usr/bin/env python3
-"""Runs the walks of the examples and those of the tutorial, and sees that a wrong one fails. Word: the program. Prints
-each that is wrong, and ends with a count.
+"""Runs the walks of the examples and of the tutorial, and checks that a wrong walk fails. Argument: the program. Prints
+each failure, then a count.
 
-Of each walk of an example copies are made in which all statuses, all texts or all labels are turned: `has` to `lacks`,
-`shows` to `hides`, a status to another one. Each of the lines has to be reported. Walks without a form, or with words
-that mean nothing in their application, have to be refused with their line and exit status 2."""
+Each walk of an example is copied with all its expectations inverted: `has` becomes `lacks`, `shows` becomes `hides`,
+and each status becomes another one. Each of these lines must be reported. Walks that are malformed, or that have words
+that mean nothing in their application, must be refused with their line and exit status 2."""
 import contextlib
 import glob
 import io
@@ -27,7 +27,7 @@ import walk                                                                 # no
 
 SUMMARY = re.compile(r'(\d+) steps, (\d+) expectations after them, (?:(\d+) not met|all met)\n$')
 QUOTED = re.compile(r'"(?:[^"\\]|\\.)*"')
-# the line of the file, and the words that were expected or are shown
+# the number of the line, and the words that were expected or are shown
 REPORTED = re.compile(r'(?m)^(?:[^\n ]*):(\d+): .*\n((?:    .*\n)*)')
 TURNED = {'has': 'lacks', 'lacks': 'has', 'shows': 'hides', 'hides': 'shows'}
 APART = re.compile(r'(?m)(?:^    .*\n)+(?:\n+(?:^    .*\n)+)*')
@@ -59,7 +59,7 @@ JOINED = '''ann = as nobody POST /join name=Ann -> 303 "/?said=Welcome"
 bob = as nobody POST /join name="Bob B." -> 303
 card, diary = as ann POST /cards phone="1 < 2" town=Rome -> 303 /card/{card}
 '''
-# walks over APP that are well
+# walks over APP that are right
 GOOD = {
     'all forms': JOINED + '''as ann GET /card/{card} -> 200   # a comment
   is "1 &lt; 2"
@@ -100,7 +100,7 @@ as ann GET /card/{card} -> 200
   shows card.phone
 ''',
 }
-# walks that fail: the line that is reported, and words that stand in what is said
+# walks that fail: the line that is reported, and words of the message
 FAILING = {
     'a status': (JOINED + 'as ann GET /card/{card} -> 404\n', 4, ['- 404', '+ 200']),
     'a status that nothing is said of': ('as ann GET /none\n', 1, ['- 200 or 303', '+ 404']),
@@ -127,7 +127,7 @@ FAILING = {
     'a session of somebody else': ('bob = as nobody POST /join name=B\nann = as nobody POST /join name=A\n', 2,
                                    ['- ann 4096, in the sessions', '+ ann 8192, which was made']),
 }
-# walks that have no form, or name what isn't there: the line, and words that stand in what is said
+# walks that are malformed, or name what doesn't exist: the line, and words of the message
 REFUSED = {
     'an unknown word': ('as ann GET /\n  hass "x"\n', 2, 'not with hass: is has meant?'),
     'a request without who asks': ('GET /\n', 1, 'a request begins with who asks: as nobody GET'),
@@ -165,7 +165,8 @@ REFUSED = {
 
 
 def walked(words, folder=TOP):
-    """The exit status of a walk and what it says. It is gone in this process, which is quicker than one of its own."""
+    """Runs a walk. Returns its exit status and its output. It runs in this process, which is quicker than in one of its
+    own."""
     out = io.StringIO()
     argv, sys.argv = sys.argv, ['walk.py', '--program', PROGRAM, *words]
     os.chdir(folder)
@@ -178,7 +179,7 @@ def walked(words, folder=TOP):
 
 
 def run(words, folder):
-    """The same by a process of its own."""
+    """Does the same in a process of its own."""
     done = subprocess.run([sys.executable, TOOL, '--program', PROGRAM, *words], cwd=folder, stdin=subprocess.DEVNULL,
                           stdout=subprocess.PIPE, stderr=subprocess.STDOUT, timeout=900, check=False)
     return done.returncode, done.stdout.decode()
@@ -191,7 +192,8 @@ def put(folder, files):
 
 
 def over(text, app=APP):
-    """A walk over an application of its own, with a session, a walk to include and two applications to upgrade to."""
+    """Runs a walk over an application of its own, with sessions, a walk to include and two applications to upgrade
+    to."""
     with tempfile.TemporaryDirectory() as folder:
         put(folder, {'app': app, 'walk': text, 'sessions': SESSIONS, 'people': JOINED, 'next': NEXT,
                      'other': APP.replace('Diary', 'Book')})
@@ -199,7 +201,7 @@ def over(text, app=APP):
 
 
 def reported(out):
-    """The lines that are reported, each with what is said of it."""
+    """Returns the lines that are reported, each with its message."""
     found = {}
     for line, said in REPORTED.findall(out):
         found[int(line)] = found.get(int(line), '') + said
@@ -225,7 +227,7 @@ def of_small_walks():
 
 
 def of_processes():
-    """What a process says and ends with: 0, 1 and 2, and the help."""
+    """Checks the output and the exit status of a process: 0, 1 and 2, and the help."""
     status, out = run(['--help'], TOP)
     yield None if status == 0 and out.startswith('usage: walk') else '--help: %d, %s' % (status, out)
     with tempfile.TemporaryDirectory() as folder:
@@ -244,7 +246,7 @@ def of_processes():
 
 
 def of_examples():
-    """The walks of each example, and a copy of each in which all lines are turned."""
+    """Checks the walks of each example, and a copy of each with all expectations inverted."""
     paths = sum((glob.glob('examples/' + pattern, root_dir=TOP) for pattern in ('*.walk', '*/walk', '*/*.walk')), [])
     for path in sorted(paths):
         beside = path[:-len('walk')] + 'app'
@@ -259,13 +261,13 @@ def of_examples():
 
 
 def application_of(path):
-    """The application of a walk in a folder: its file, or the folder itself."""
+    """Returns the application of a walk in a folder: its file, or the folder itself."""
     folder = os.path.dirname(path)
     return os.path.join(folder, 'app') if os.path.isfile(os.path.join(TOP, folder, 'app')) else folder
 
 
 def of_statuses(line):
-    """A line with another status, and what has to be said of it."""
+    """Returns a line with another status, and what must be reported about it."""
     found = re.search(r'-> (\d\d\d)', line)
     if not found:
         return line, []
@@ -294,7 +296,7 @@ def unquoted(text):
 
 
 def turned(text):
-    """A walk in which each line is turned, and for the number of each what has to be reported there."""
+    """Returns a walk with all expectations inverted, and for each line number what must be reported there."""
     lines, want, first = [], {}, None
     for number, line in enumerate(text.split('\n'), 1):
         first = first or number
@@ -308,7 +310,7 @@ def turned(text):
 
 
 def untold(application, path):
-    """What isn't reported of a copy of a walk in which all is turned."""
+    """Returns what isn't reported about a copy of a walk with all expectations inverted."""
     text, want = turned(read(path))
     folder = os.path.dirname(path)
     with tempfile.TemporaryDirectory() as room:
@@ -325,8 +327,8 @@ def untold(application, path):
 
 
 def of_pages():
-    """The walks that pages set apart: each over the application that the page sets apart last before it, or over the
-    calendar, of which docs/USING.md speaks."""
+    """Checks the walks in indented blocks of pages. Each runs over the last application in such a block before it, or
+    for docs/USING.md over the calendar, which that page is about."""
     for page, application in (('docs/TUTORIAL.md', None), ('docs/USING.md', read('examples/calendar/app'))):
         walks = 0
         for block in APART.findall(read(page)):

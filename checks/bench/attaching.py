@@ -1,10 +1,11 @@
-"""Measures what attaching a file takes, by how many records it has. Words: the program, and the numbers of records, or
-none for 1,024, 9,984 and 99,968. The records are the guarded ones of `bench times`, each with two alternatives, made 64 by
-a request in a run of its own. Then a run attaches the file and answers nothing, another one answers one list that nobody
-asks for, and another one that the host of all records asks for. A time is the processor's for the whole run, the best of
-three; the memory is the most that one of them held.
-docs/COSTS.md has what it said last, with its date. It is no part of the gate: what a machine takes is no property of the
-program."""
+"""Measures what attaching a file takes, by the number of its records. Arguments: the program, and the numbers of
+records (1,024, 9,984 and 99,968 by default). The records are the guarded ones of `bench times`, each with two
+alternatives. A run of its own makes them, 64 in a request. Then one run attaches the file and answers nothing, another
+one answers a list requested by nobody, and a third one answers a list requested by the host of all records. A time is
+the processor time of the whole run, the best of three. The memory is the peak of the three runs.
+
+docs/COSTS.md has the last results, with their date. This isn't part of the gate, since the results depend on the
+machine."""
 import concurrent.futures
 import contextlib
 import os
@@ -17,12 +18,12 @@ from bench.times import GUARDED, HOSTED, ROUND, UNHOSTED, bar, guarded, run_once
 
 MB = 1024 * 1024
 SIZES = [1024, 9984, 99968]
-MOST = 150      # MB that a run over the largest file may hold
+MOST = 150      # MB that a run over the largest file may use
 RUNS = [('nothing', []), ('a list of nobody', [UNHOSTED]), ('a list of the host', [HOSTED])]
 
 
 def replay(pool, program, folder, events):
-    """The processor seconds and peak bytes of a run over the file."""
+    """Returns the processor seconds and the peak bytes of a run over the file."""
     with open(os.path.join(folder, 'events'), 'w') as file:
         file.write(''.join(line + '\n' for line in events))
     words = [program, 'replay', *(os.path.join(folder, name) for name in ('bench.app', 'events')),
@@ -39,7 +40,7 @@ def rows_in(folder):
 
 
 def measure(pool, program, folder, count):
-    """Makes the file, prints a line for each kind of run, and gives the most bytes that one held."""
+    """Makes the file, prints a line for each kind of run, and returns the largest of their peaks in bytes."""
     replay(pool, program, folder, guarded(count))
     rows, size = rows_in(folder), os.path.getsize(os.path.join(folder, 'store'))
     most = 0

@@ -1,9 +1,13 @@
 """Measures the built program over real connections, with one client and with two and ten at once, and over stores in
-files. Words: the program. A time is that which the client waits, the middle of all where nothing else is said; the
-clients are this script, on the same machine. Two and ten clients ask for the same list, of 100 names in a file of SQLite,
-from the servers that Flask and Django bring with them too, where these are installed: on connections that they keep, each
-opening a new one where it was ended, and on a new one for each page. docs/COSTS.md has what it said last, with its date.
-It is no part of the gate: what a machine takes is no property of the program."""
+files. Argument: the program. A time is how long the client waits, the median of all requests unless something else is
+said. The clients are this script, on the same machine.
+
+Two and ten clients request the same list of 100 names in an SQLite file. They also request it from the servers that
+come with Flask and Django, if these are installed. They use connections that they keep, opening a new one if one was
+closed, and then a new connection for each page.
+
+docs/COSTS.md has the last results, with their date. This isn't part of the gate, since the results depend on the
+machine."""
 import contextlib
 import http.client
 import os
@@ -27,8 +31,8 @@ APPLICATION = '''(app
  (view get "/names" (params) (for (from ((u User)) true key) (put (get User name u)) (put "\\n")))
  (view post "/join" (params (name text)) (create u User (set (name name)) (put u))))
 ''' % ('x' * SHORT, 'x' * LONG)
-LISTED = 100        # records of the list that many clients ask for
-PAGES = 40          # of each client
+LISTED = 100        # records of the list that many clients request
+PAGES = 40          # for each client
 PAUSES = 0.1, 0     # seconds between two pages of a client
 PYTHONS = sys.executable, '/usr/bin/python3'
 COMMON = '''
@@ -57,7 +61,7 @@ NAMES = b'ask - GET "/names" ""\n'
 
 
 def read_reply(reader):
-    """The length of the body of one reply."""
+    """Reads one reply. Returns the length of its body."""
     length = None
     while True:
         head = reader.readline()
@@ -68,7 +72,7 @@ def read_reply(reader):
 
 
 def waits(line, request, size, count):
-    """How long each of so many requests waits for its reply."""
+    """Returns how long each of `count` requests waits for its reply."""
     reader, times = line.makefile('rb'), []
     for _ in range(count):
         began = time.perf_counter()
@@ -94,7 +98,7 @@ def over_a_connection(folder):
 
 
 def seconds(folder, events, options=()):
-    """How long a replay of these events takes."""
+    """Returns how many seconds a replay of these events takes."""
     with open(os.path.join(folder, 'events'), 'wb') as file:
         file.write(events)
     began = time.perf_counter()
@@ -118,7 +122,7 @@ def over_a_store(folder):
 
 
 def python_with(name):
-    """A Python that has this, or none."""
+    """Returns a Python that has this module, or None."""
     for python in PYTHONS:
         with contextlib.suppress(OSError):
             if subprocess.run([python, '-c', 'import ' + name], stderr=subprocess.DEVNULL).returncode == 0:
@@ -128,7 +132,7 @@ def python_with(name):
 
 @contextlib.contextmanager
 def other(name, folder):
-    """The port of another server, or none where it isn't installed."""
+    """Starts another server. Yields its port, or None if the server isn't installed."""
     python, port = python_with(name.lower()), free_port()
     if not python:
         yield None
@@ -148,7 +152,7 @@ def other(name, folder):
 
 
 def client(port, kept, pause, times, sizes):
-    """Asks for the list again and again; where its connection was ended, on a new one."""
+    """Requests the list again and again. If the connection was closed, opens a new one."""
     line = http.client.HTTPConnection('127.0.0.1', port, timeout=60)
     for _ in range(PAGES):
         began = time.perf_counter()

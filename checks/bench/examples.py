@@ -1,15 +1,19 @@
-"""Measures the lists of the four larger applications in examples/. Words: the program, and the numbers of records that
-the main model of each has, or none for 250, 1,000 and 4,000. The records are made by the application's own forms, spread
-over its users, one for 20 records, and mostly guarded. They are made twice: with policies that are always true in the
-file of a store, over which the application with its own policies is then served, and with its own policies in memory,
-where it is told what making them took, each request of which settles its page. The list is asked by somebody who may see
-much of it, by somebody who may see little, and by nobody, twice each. A time is what the program takes of a processor;
-the memory is the most that the program held meanwhile, and the labels are those that the page shows. A page that takes
-longer than a minute is left, and its application with it. Behind the pages of the file stands, for the same people, what
-a run that replays the page alone takes of a processor, from its beginning to its end, and what one of `jac why` takes,
-without their memory. Last stand the bars: what the costs are meant to keep to.
-docs/COSTS.md has what it said last, with its date. It is no part of the gate: what a machine takes is no property of the
-program."""
+"""Measures the lists of the four larger applications in examples/. Arguments: the program, and the numbers of records
+of each application's main model (250, 1,000 and 4,000 by default). The application's own forms make the records. The
+records are spread over its users, one user for 20 records, and are mostly guarded. They are made twice. In the file of
+a store, an application whose policies are always true makes them, and then the application with its own policies is
+served over that file. In memory, the application with its own policies makes them. For this the time of all POSTs is
+printed. Each POST resolves the labels of its page.
+
+The list is requested by somebody who may see much of it, by somebody who may see little, and by nobody, twice each.
+Times are processor time of the program. The memory is the most that the program held meanwhile. The labels are those
+that the page shows. If a page takes longer than a minute, the rest of its application is skipped.
+
+After the pages over the file come, for the same viewers, the processor time of a whole run that replays only the page,
+and that of a `jac why`, both without their memory. Last come the bars, the limits that the costs should keep.
+
+docs/COSTS.md has the last results, with their date. This isn't part of the gate, since the results depend on the
+machine."""
 import contextlib
 import http.client
 import itertools
@@ -27,21 +31,21 @@ TOP = os.path.dirname(os.path.dirname(os.path.dirname(os.path.abspath(__file__))
 SIZES = [250, 1000, 4000]
 MOST = 60       # seconds for one page
 FORM = {'Content-Type': 'application/x-www-form-urlencoded'}
-SHARE = 20      # records of a user
+SHARE = 20      # records for each user
 PEOPLE = 'Ann Bob Cleo Dan Eve Finn Gwen Hugo Iris Jon Kim Lea Max Nina Otto Pia Quin Ruth Sam Tess'.split()
 
 
 class Left(Exception):
-    """Why an application is left."""
+    """Why the rest of an application is skipped."""
 
 
 def id_of(number, site=0, model=0):
-    """The id that docs/LANGUAGE.md gives a record."""
+    """Returns the id that docs/LANGUAGE.md gives a record."""
     return (number * 64 + site) * 64 + model
 
 
 def users_file(requests):
-    """A line for each record of the first model that so many requests may make."""
+    """Returns a line for each record of the first model that so many requests may make."""
     ids = [id_of(1, site) for site in range(64)] + [id_of(number) for number in range(2, requests)]
     return ''.join('%d %d\n' % (one, one) for one in ids)
 
@@ -55,14 +59,15 @@ def day_of(place):
 
 
 class Site:
-    """An application that is served, each request on a connection of its own: one that is kept is let go soon."""
+    """An application that is served. Each request has a connection of its own, since a connection that is kept is soon
+    closed."""
 
     def __init__(self, run, audit):
         self.line = http.client.HTTPConnection('127.0.0.1', run.port, timeout=MOST)
         self.process, self.audit, self.number = run.run.pid, audit, 0
 
     def ask(self, method, viewer, path, body=None):
-        """The status, the location, the body and the seconds of a reply."""
+        """Returns the status, the location, the body and the seconds of a reply."""
         headers = dict(FORM) if method == 'POST' else {}
         if viewer is not None:
             headers['Cookie'] = 'session=%d' % viewer
@@ -77,11 +82,11 @@ class Site:
             except TimeoutError:
                 raise Left('%s %s takes more than %d seconds' % (method, path, MOST))
             except (BrokenPipeError, ConnectionResetError):
-                # let go before its request was whole, where this script waited for a processor too long
+                # closed before its request was complete, because this script waited too long for a processor
                 continue
 
     def post(self, viewer, path, **fields):
-        """Sends a form, and gives the path that it leads to."""
+        """Sends a form, and returns the path that it leads to."""
         status, to, body, _ = self.ask('POST', viewer, path, urllib.parse.urlencode(fields).encode())
         if status != 303:
             raise Left('POST %s, request %d: %d %s' % (path, self.number + 1, status, body[:200].decode()))
@@ -93,7 +98,8 @@ class Site:
         return id_of(self.number)
 
     def page(self, viewer, path):
-        """The status of a page, the seconds that it and the next one take, its bytes, peak bytes of memory and labels."""
+        """Returns a page's status, the seconds that it and the next one take, its bytes, the peak bytes of memory, and
+        the number of labels."""
         with open('/proc/%d/clear_refs' % self.process, 'w') as refs:
             refs.write('5')
         status, _, body, took = self.ask('GET', viewer, path)
@@ -103,14 +109,14 @@ class Site:
         return status, took, again, len(body), peak, self.shown()
 
     def shown(self):
-        """How many labels the last line of the audit names."""
+        """Returns how many labels the last line of the audit names."""
         with open(self.audit) as audit:
             last = audit.read().splitlines()[-1].split()[3]
         return counted(last)
 
 
 def calendar(site):
-    """Events, of which a tenth is open: one user hosts a quarter of them, and each fifth has a guest."""
+    """Makes events, of which a tenth is open. One user hosts a quarter of them, and every fifth has a guest."""
     site.post(None, '/setup')
     people = [id_of(1, place) for place in range(4)]
     for place in itertools.count():
@@ -127,7 +133,7 @@ def calendar(site):
 
 
 def conference(site):
-    """Papers, of which each third has a second author and each tenth a conflict; each twentieth has a review."""
+    """Makes papers. Every third has a second author, every tenth a conflict, and every twentieth a review."""
     site.post(None, '/setup')
     chair, first, second, reviewer, other = (id_of(1, place) for place in range(5))
     people = [first, second]
@@ -146,7 +152,7 @@ def conference(site):
 
 
 def health(site):
-    """Entries of patients by two doctors, of which one has the consent of all; each twelfth is hidden."""
+    """Makes entries of patients by two doctors, one of whom has everybody's consent. Every twelfth entry is hidden."""
     site.post(None, '/setup')
     people, house, quinn = [id_of(1, 0), id_of(1, 1)], id_of(1, 2), id_of(1, 3)
     for patient in people:
@@ -164,7 +170,8 @@ def health(site):
 
 
 def courses(site):
-    """Submissions of the students of two courses to ten tasks each. The list is that of a course, which counts them."""
+    """Makes submissions of the students of two courses, to ten tasks each. The list is the page of a course, which
+    counts them."""
     site.post(None, '/setup')
     teachers, student = [id_of(1, 0), id_of(1, 1)], None
     given = [site.post(teacher, '/courses', title='Course of %d' % teacher) for teacher in teachers]
@@ -182,7 +189,7 @@ def courses(site):
 
 
 def without_policies(text):
-    """The application with policies that are always true."""
+    """Returns the application with policies that are always true."""
     parts, place = [], 0
     for found in re.finditer(r'\(policy\b', text):
         depth, end = 1, found.end()
@@ -196,7 +203,7 @@ def without_policies(text):
 
 @contextlib.contextmanager
 def site_of(program, app, folder, options=('--db', 'store')):
-    """The application, served over the file of a store in the folder, or with no options in memory."""
+    """Serves the application over a store's file in the folder, or in memory if there are no options."""
     options = '--sessions', 'sessions', '--audit', 'audit', *options
     with served(program, app, 1000000, folder, options) as run:
         site = Site(run, os.path.join(folder, 'audit'))
@@ -205,12 +212,12 @@ def site_of(program, app, folder, options=('--db', 'store')):
 
 
 def made(make, count, site):
-    """Makes so many records, and gives who asks for which list."""
+    """Makes `count` records. Returns who requests which list."""
     return next(itertools.islice(make(site), count - 1, None))
 
 
 def write(make, count, folder):
-    """Writes the application, the one whose policies are always true, and the sessions."""
+    """Writes the application, a copy of it whose policies are always true, and the sessions."""
     with open(os.path.join(TOP, 'examples', make.__name__, 'app')) as file:
         text = file.read()
     for name, data in (('app', text), ('open', without_policies(text)), ('sessions', users_file(3 * count + 500))):
@@ -252,7 +259,7 @@ def measure(program, make, sizes):
 
 
 def whole(words, folder):
-    """The status, the seconds of a processor and the output of a run."""
+    """Returns the status, the processor seconds and the output of a run."""
     run = subprocess.Popen(words, cwd=folder, stdin=subprocess.DEVNULL, stdout=subprocess.PIPE, stderr=subprocess.DEVNULL)
     out = run.stdout.read()
     run.stdout.close()
@@ -262,7 +269,7 @@ def whole(words, folder):
 
 
 def replay(program, viewer, path, folder):
-    """The status, the seconds of a processor, the bytes and the labels of a run that makes the page alone."""
+    """Returns the status, the processor seconds, the bytes and the labels of a run that makes only the page."""
     with open(os.path.join(folder, 'events'), 'w') as file:
         file.write('ask %s GET "%s" ""\n' % ('-' if viewer is None else viewer, path))
     words = [program, 'replay', 'app', 'events', '--audit', 'page', '--db', 'store']
@@ -272,7 +279,7 @@ def replay(program, viewer, path, folder):
 
 
 def why(program, viewer, path, folder):
-    """The same of a `why` over the file."""
+    """Returns the same for a `why` over the file."""
     words = [program, 'why', 'app', '-' if viewer is None else str(viewer), '--db', 'store']
     status, took, out = whole(words, folder)
     return status, took, None, len(out), 0, counted(out.decode().split('\n')[0].removeprefix('shown '))
@@ -282,7 +289,7 @@ def counted(labels):
     return 0 if labels in ('-', 'nopage') else labels.count(',') + 1
 
 
-TOOK = {}   # the seconds of the first page, by application, number, place and who asks
+TOOK = {}   # the seconds of the first page, by application, number of records, place and viewer
 
 
 def line(name, count, where, who, status, took, again, size, peak, shown):

@@ -1,10 +1,11 @@
-"""Measures what is meant to cost in proportion to its length: the check of an application, and the bytes of
-connections. Words: the program, and parts of the names of the series that are wanted, or none for all. Each series has
-several sizes, each four times the one before where no limit ends it; the growth is that of the seconds over that of the
-size, so that 1.00 is proportion. A time is the processor's for a run, the best of three, and on a real connection what
-the client waits; the memory is the most that the run held.
-docs/COSTS.md has what it said last, with its date. It is no part of the gate: what a machine takes is no property of the
-program."""
+"""Measures what should cost in proportion to its length: the check of an application, and the bytes of connections.
+Arguments: the program, and parts of the names of the series to measure, or none for all. Each series has several sizes,
+each four times the one before unless that would exceed a limit. The growth is that of the seconds divided by that of
+the size, so 1.00 means in proportion. A time is the processor time of a run, the best of three, and on a real
+connection how long the client waits. The memory is the most that the run held.
+
+docs/COSTS.md has the last results, with their date. This isn't part of the gate, since the results depend on the
+machine."""
 import concurrent.futures
 import contextlib
 import os
@@ -19,9 +20,9 @@ from support.serving import served
 KB, MB = 1024, 1024 * 1024
 SIZES = [64 * KB, 256 * KB, MB - KB]
 LONGEST = 16 * MB       # of an events file, and of one connection
-ENOUGH = 10             # seconds behind which a run isn't repeated
+ENOUGH = 10             # seconds after which a run isn't repeated
 NAME = 64               # letters of the longest name
-DEPTH = 64              # lists in one another
+DEPTH = 64              # lists nested in one another
 HELLO = b'''(app
  (view get "/" (params) (put "hello"))
  (view post "/" (params (word text)) (put "posted")))
@@ -35,7 +36,7 @@ def long_name(letter, place):
 
 
 def filled(size, begin, part, end):
-    """An application of about this size: its begin, parts by their number, and its end."""
+    """Returns an application of about this size: its beginning, parts by their number, and its end."""
     parts, length, place = [begin], len(begin) + len(end), 0
     while length < size:
         parts.append(part(place))
@@ -45,7 +46,7 @@ def filled(size, begin, part, end):
 
 
 def models(count):
-    """Models of as many fields as may be, with long names, and a group that guards half of them."""
+    """Returns models with as many fields as allowed, with long names, and a group that guards half of them."""
     fields = [long_name('f', place) for place in range(32)]
     listed = ' '.join('(%s int)' % name for name in fields)
     guards = ' '.join('(%s 0)' % name for name in fields[16:])
@@ -73,7 +74,7 @@ def of_statements(size):
 
 
 def of_parameters(size):
-    """One view of many parameters, of which each is put once."""
+    """Returns an application of one view with many parameters, each of which is put once."""
     count = size // len('(p00000 int) (put p00000)\n')
     params = ' '.join('(p%05d int)' % place for place in range(count))
     return '(app (view get "/" (params %s)\n%s))\n' % (params, '\n'.join('(put p%05d)' % place for place in range(count)))
@@ -84,17 +85,19 @@ def deep(lists):
 
 
 def of_depth(lists):
-    """One expression of so many lists in one another, three of them around it."""
+    """Returns an application with one expression, so that `lists` lists are nested in one another. Three of them are
+    around the expression."""
     return '(app (view get "/" (params) (put %s)))\n' % deep(lists - 3)
 
 
 def of_deep_statements(size):
-    """Many expressions as deep as may be."""
+    """Returns an application of many expressions that are as deep as allowed."""
     return filled(size, '(app (view get "/" (params)\n', lambda place: '(put %s)\n' % deep(DEPTH - 3), '))\n')
 
 
 def of_wide_expression(size):
-    """One expression, a tree in which each list has two below it, as large as the size allows."""
+    """Returns an application with one expression, a tree in which each list has two lists below it, as large as the
+    size allows."""
     text = '1'
     while 2 * len(text) + KB <= size:
         text = '(add %s %s)' % (text, text)
@@ -114,14 +117,15 @@ CHECKS = [
 
 
 def quoted(data):
-    """Bytes as they stand in a line of events."""
+    """Returns the bytes as they are written in a line of events."""
     for plain, escaped in ((b'\\', b'\\\\'), (b'"', b'\\"'), (b'\r', b'\\r'), (b'\n', b'\\n')):
         data = data.replace(plain, escaped)
     return data
 
 
 def connections(count):
-    """Connections that are all open at once, each with three requests, which come in two pieces and in turn."""
+    """Returns connections that are all open at once. Each sends three requests, each in two pieces, and all take
+    turns."""
     lines = [b'open %d' % place for place in range(count)]
     for _ in range(3):
         for piece in (GET[:9], GET[9:]):
@@ -130,20 +134,20 @@ def connections(count):
 
 
 def get_of(size):
-    """A request of exactly so many bytes."""
+    """Returns a request of exactly `size` bytes."""
     head = b'GET / HTTP/1.1\r\nHost: a\r\nX: \r\n\r\n'
     return head.replace(b'X: ', b'X: ' + b'x' * (size - len(head)))
 
 
 def post_of(size):
-    """A request with a form, of exactly so many bytes."""
+    """Returns a request with a form, of exactly `size` bytes."""
     head = b'POST / HTTP/1.1\r\nHost: a\r\nContent-Type: application/x-www-form-urlencoded\r\nContent-Length: %d\r\n\r\nword='
     body = size - len(head % 10 ** 4)
     return head % (body + len(b'word=')) + b'x' * body
 
 
 def one_connection(request):
-    """One connection of as many such requests as a file of events of this size holds."""
+    """Returns a function that makes one connection, with as many such requests as an events file of this size holds."""
     def events(size):
         first, line, last = b'open 1', b'data 1 "%s"' % quoted(request), b'end 1'
         count = (size - len(first) - len(last) - 2) // (len(line) + 1)
@@ -152,7 +156,7 @@ def one_connection(request):
 
 
 def byte_by_byte(size):
-    """One form whose body has so many bytes, of which each is a piece."""
+    """Returns one form whose body has `size` bytes. Each byte is a piece of its own."""
     body = b'word=' + b'x' * (size - len(b'word='))
     head = b'POST / HTTP/1.1\r\nHost: a\r\nContent-Type: application/x-www-form-urlencoded\r\nContent-Length: %d\r\n\r\n' % size
     pieces = [bytes([byte]) for byte in head + body]
@@ -177,7 +181,8 @@ def peak_of(process):
 
 
 def run_once(words, out):
-    """The status of a run, its processor seconds and peak bytes of memory, or nothing where those are this process's."""
+    """Returns a run's status, its processor seconds and its peak bytes of memory, or None if that peak is this
+    process's own."""
     own = peak_of(os.getpid())
     actions = [(os.POSIX_SPAWN_OPEN, 1, out, os.O_WRONLY | os.O_CREAT | os.O_TRUNC, 0o600)]
     child = os.posix_spawn(words[0], words, os.environ, file_actions=actions)
@@ -187,7 +192,7 @@ def run_once(words, out):
 
 
 class Runs:
-    """Runs of the program, from a process of its own that stays small."""
+    """Runs the program from a process of its own that stays small."""
 
     def __init__(self, pool, program, folder):
         self.pool, self.program, self.folder = pool, program, folder
@@ -250,11 +255,11 @@ def replay(runs, table, name, make, sizes, unit):
 
 
 def serve(runs, table, name, request, sizes):
-    """One real connection of exactly so many bytes of whole requests; the replies are read meanwhile."""
+    """Sends as many whole requests as fit into this size on one real connection. The replies are read meanwhile."""
     runs.write('app', HELLO)
     for size in sizes:
         count = size // len(request)
-        # With a second connection to come the program is still there to be asked what it held.
+        # The program still waits for a second connection, so its peak memory can be read.
         with served(runs.program, 'app', 2, runs.folder) as run, contextlib.closing(run.connect()) as line:
             line.settimeout(600)
             sender = threading.Thread(target=line.sendall, args=(request * count,), daemon=True)
@@ -269,7 +274,7 @@ def serve(runs, table, name, request, sizes):
 
 
 def read_replies(line, count):
-    """How many of so many replies come before the connection ends."""
+    """Returns how many of `count` replies come before the connection ends."""
     replies, rest = 0, b''
     while replies < count:
         part = line.recv(MB)

@@ -1,12 +1,13 @@
-"""Counts the instructions that guarded lists and POSTs take, by how many events there are. Words: the program, and the
-numbers of events, or none for 256, 1,024, 4,096 and 16,384. The requests are those of `bench times`: the host of all events
-is shown all labels, nobody none; a list is asked again and again, and then anew behind a `POST` of nobody. A request costs
-what a run with some more of them takes less that of a run with two, divided by how many these are: four of a list, and 64
-of a `POST`, of which one now and then has the store find more room.
+"""Counts the instructions that guarded lists and POSTs take, by the number of events. Arguments: the program, and the
+numbers of events (256, 1,024, 4,096 and 16,384 by default). The requests are those of `bench times`. The host of all
+events is shown all labels, nobody is shown none. A list is requested again and again, and then anew after a `POST` of
+nobody. To get the cost of a request, a run with two requests is compared with a run with some more, and the difference
+is divided by the number of these further requests. There are four of a list, and 64 of a `POST`, since now and then one
+`POST` makes the store allocate more room.
 
-valgrind counts, so a figure is the same from run to run, whatever else the machine does; what its caches do to it isn't
-counted, for which `bench times` has the times. Last stand the bars. docs/COSTS.md has what it said last, with its date. It is
-no part of the gate."""
+valgrind counts, so a number is the same in each run, whatever else the machine does. Effects of the processor's caches
+aren't counted; they are part of the times of `bench times`. Last come the bars. docs/COSTS.md has the last results,
+with their date. This isn't part of the gate."""
 import concurrent.futures
 import os
 import re
@@ -19,15 +20,15 @@ from support import proved
 from bench.times import GUARDED, GUARDED_ASKED, bar, guarded
 
 SIZES = [256, 1024, 4096, 16384]
-BARRED = 1024, 4096     # from these on to four times as many
-FEW = 2                 # requests of a run
-MORE = {'GET': 4, 'POST': 64}   # and those of another one beyond these, by the last of what is asked
+BARRED = 1024, 4096     # the bars are for the growth from each of these numbers to four times as many
+FEW = 2                 # requests in the shorter run
+MORE = {'GET': 4, 'POST': 64}   # further requests in the longer run, by the method of the last request
 GROWTH = 4.6
 COUNTED = re.compile(r'I\s+refs:\s+([\d,]+)')
 
 
 def instructions(program, folder, name, events):
-    """What a run that answers these takes."""
+    """Returns how many instructions a run over these events takes."""
     path = os.path.join(folder, name)
     with open(path, 'w') as file:
         file.write('\n'.join(events) + '\n')
@@ -41,7 +42,7 @@ def instructions(program, folder, name, events):
 
 
 def request(program, folder, name, count, asked):
-    """What a request takes beside so many events."""
+    """Returns how many instructions a request takes if there are `count` events."""
     more = MORE[asked[-1].split()[2]]
     few, many = (instructions(program, folder, '%s, %d of %d' % (name, number, count), guarded(count) + asked * number)
                  for number in (FEW, FEW + more))

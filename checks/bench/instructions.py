@@ -1,12 +1,13 @@
-"""Counts the instructions that requests take, one line for each kind of request that has a goal, beside the goal. Words:
-the program, and parts of the names of the lines that are wanted, or none for all. A request costs what a run with some
-more of them takes less that of a run with two, divided by how many these are, and by the records or answers that it
-shows where the line says so. Where a page is asked lazily, the events files of both runs are equally long. The lists of
-guarded and of plain events are those of `bench times`, the pages of one event and of papers those of `bench records`.
+"""Counts the instructions that requests take, one line for each kind of request that has a goal, with the goal.
+Arguments: the program, and parts of the names of the lines to print, or none for all. To get the cost of a request, a
+run with two requests is compared with a run with some more, and the difference is divided by the number of these
+further requests. If the line says so, it is also divided by the number of records or answers shown. If a page is
+requested lazily, the events files of both runs have the same length. The lists of guarded and of plain events are those
+of `bench times`, the pages of one event and of papers those of `bench records`.
 
-valgrind counts, so a figure is the same from run to run, whatever else the machine does; what its caches do to it isn't
-counted, for which `bench times` has the times. A line without a goal is there to be compared with. docs/COSTS.md has what
-it said last, with its date. It is no part of the gate."""
+valgrind counts, so a number is the same in each run, whatever else the machine does. Effects of the processor's caches
+aren't counted; they are part of the times of `bench times`. A line without a goal is there for comparison.
+docs/COSTS.md has the last results, with their date. This isn't part of the gate."""
 import concurrent.futures
 import os
 import re
@@ -19,9 +20,9 @@ from support import proved
 from bench.records import ONE, OTHER, THIRD, Calendar, Conference, one_of, requests_for, write_app
 from bench.times import APPLICATION, GUARDED, HOSTED, HOSTS, JOINED, UNHOSTED, guarded, stored
 
-FEW = 2         # requests of a run
-MORE = 4        # and those of another one beyond these
-MOST = 64       # or so many, where one now and then does more than the others
+FEW = 2         # requests in the shorter run
+MORE = 4        # further requests in the longer run
+MOST = 64       # the same, if now and then a request takes more than the others
 COUNTED = re.compile(r'I\s+refs:\s+([\d,]+)')
 SMALL = '(app\n (view get "/" (params) (put "ten bytes!")))\n'
 RECEIVED = r'data 1 "GET / HTTP/1.1\r\nHost: localhost\r\n\r\n"'
@@ -29,35 +30,35 @@ VIEWS = 2500
 
 
 class Row:
-    """What is measured: the application, the options of the run, the lines that make the store, the line that is asked,
-    by how much its cost is divided, and the most that it is meant to take."""
+    """What is measured: the application, the lines that make the store, the line of the request, the number that its
+    cost is divided by, the most that it should take, and the options of the run."""
 
     def __init__(self, name, application, made, asked, by=1, goal=None, options=(), more=MORE):
         self.name, self.application, self.made, self.asked = name, application, made, asked
         self.by, self.goal, self.options, self.more = by, goal, options, more
 
     def cost(self, count):
-        """`count` gives what a run takes whose lines these are."""
+        """Returns the cost of one request. `count` returns how many instructions a run over these lines takes."""
         few, many = (count(self, self.lines(more)) for more in (0, self.more))
         return (many - few) / self.more / self.by
 
     def lines(self, more):
-        """The lines of a run with so many more requests."""
+        """Returns the lines of a run with `more` further requests."""
         return self.made + [self.asked] * (FEW + more)
 
 
 class SmallRow(Row):
-    """A request that takes little, among records that take much to make. What they take varies by some ten-thousandths
-    with the length of the events file, as memory is laid out otherwise, and that may be more than all requests take. So
-    empty lines, which are skipped, make the file of the shorter run as long as the other one's. What skipping them takes
-    is missing from the figure: of a trial three thousandths."""
+    """A request that takes little, among records that take much to make. What the records take varies by some
+    ten-thousandths with the length of the events file, since memory is then laid out differently. That may be more than
+    all the requests take. So empty lines, which are skipped, make the file of the shorter run as long as that of the
+    longer run. The figure lacks what skipping them takes, which was three thousandths of it with a trial."""
 
     def lines(self, more):
         return super().lines(more) + [''] * ((self.more - more) * len(self.asked + '\n'))
 
 
 class Check(Row):
-    """A check of an application of many views, less that of one of a single view."""
+    """A check of an application of many views, minus a check of one with a single view."""
 
     def __init__(self, views, goal=None):
         super().__init__('check of %d views' % views, None, [], None, goal=goal)
@@ -72,7 +73,7 @@ def views_of(number):
 
 
 def of_example(kind, folder):
-    """The text of the example with the view that makes its records."""
+    """Returns the text of the example with the view that makes its records."""
     path = os.path.join(folder, kind.name)
     os.makedirs(path, exist_ok=True)
     write_app(kind, path)
@@ -81,7 +82,7 @@ def of_example(kind, folder):
 
 
 def filled(kind, count):
-    """The lines that make so many records of an example."""
+    """Returns the lines that make `count` records of an example."""
     third = '&third=%d' % THIRD if kind is Conference else ''
     return ['ask - POST "/setup" ""'] + [
         'ask - POST "/bulk" "one=%d&other=%d%s"' % (ONE, OTHER, third) for _ in requests_for(kind, count)]
@@ -113,7 +114,7 @@ def rows(folder):
 
 
 def instructions(program, words):
-    """What a run of the program takes."""
+    """Returns how many instructions a run of the program takes."""
     words = ['valgrind', '--tool=cachegrind', '--cache-sim=no', '--cachegrind-out-file=/dev/null', program, *words]
     run = subprocess.run(words, stdout=subprocess.DEVNULL, stderr=subprocess.PIPE, text=True)
     found = COUNTED.search(run.stderr)
@@ -123,7 +124,7 @@ def instructions(program, words):
 
 
 def counter(program):
-    """Counts runs of rows, each in a folder of its own."""
+    """Returns a function that counts the instructions of a row's runs, each in a folder of its own."""
     def count(row, given):
         with tempfile.TemporaryDirectory() as folder:
             app, events = os.path.join(folder, 'app'), os.path.join(folder, 'events')

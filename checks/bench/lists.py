@@ -1,12 +1,15 @@
-"""Measures the guarded lists of examples/calendar and examples/conference, and the POST that adds a record to each, beside
-Flask with checks written by hand. Words: the program, and the numbers of records, or none for 64, 1,024 and 4,096. The
-records are those of `bench records`, made by a view that is added to the application, in memory and over the file of a
-store. Round by round the one who hosts or wrote all adds a record, and asks for the list twice, once behind the `POST`
-and once again; a time is what the program takes of a processor, the least of all rounds, without what it waits for a
-disk. Flask makes the same records and pages, byte for byte, from SQLite in memory or in a file, by its test client, each
-table read once and each check made in Python, and its times are the least of as many rounds. Last stand the bars.
-docs/COSTS.md has what it said last, with its date. It is no part of the gate: what a machine takes is no property of the
-program."""
+"""Measures the guarded lists of examples/calendar and examples/conference, and the POST that adds a record to each,
+compared with Flask and checks written by hand. Arguments: the program, and the numbers of records (64, 1,024 and 4,096
+by default). The records are those of `bench records`. A view that is added to the application makes them, in memory and
+in the file of a store. In each round, the viewer who hosts or wrote all of them adds a record, and then requests the
+list twice, first after the `POST` and then again. Times are processor time of the program, the least of all rounds,
+without the time that it waits for a disk.
+
+Flask makes the same records and pages, byte for byte, from SQLite in memory or in a file, by its test client. It reads
+each table once and makes each check in Python. Its times are the least of as many rounds. Last come the bars.
+
+docs/COSTS.md has the last results, with their date. This isn't part of the gate, since the results depend on the
+machine."""
 import contextlib
 import html
 import os
@@ -64,7 +67,7 @@ class Events(Calendar):
 
 
 class Papers(Conference):
-    """The conference's list, for the author of all papers, before the decisions are out."""
+    """The conference's list, for the author of all papers, before the decisions are published."""
     post, form = '/papers', 'title=New&abstract=It+is+shown.'
 
     @staticmethod
@@ -94,7 +97,7 @@ class Papers(Conference):
 
     @staticmethod
     def seen(base, decided, wrote):
-        """What the viewer may know of each paper."""
+        """Yields what the viewer may know of each paper."""
         for paper, title, decision in base.execute('select id, title, decision from paper'):
             accepted = decided and decision == 'accepted'
             if not (accepted or paper in wrote):
@@ -110,7 +113,7 @@ class Papers(Conference):
 
 
 def by_jac(program, kind, count, options, folder):
-    """The least seconds of each request, with the last page."""
+    """Returns the least seconds of each request, and the last page."""
     times = {name: [] for name in ASKED}
     with served(program, 'app', 1000000, folder, ('--sessions', 'sessions', *options)) as run:
         line = Line(run)
@@ -130,7 +133,7 @@ def requests_of(kind):
 
 @contextlib.contextmanager
 def base_of(kind, count, path):
-    """What Flask reads, made as the program makes its records."""
+    """Yields the database that Flask reads, with the records as the program makes them."""
     with contextlib.closing(sqlite3.connect(path, check_same_thread=False)) as base:
         base.executescript('create table person (id integer primary key, name text);' + kind.tables)
         people = [(id_of(1, at), name) for at, name in enumerate(kind.people)]
@@ -142,7 +145,8 @@ def base_of(kind, count, path):
 
 
 def app_of(kind, base, number, page):
-    """The application, whose next POST has this number. What stands before and behind the list is as in the page."""
+    """Returns Flask's application. Its next POST has this number. What comes before and after the list is taken from
+    the page."""
     import flask
     app = flask.Flask('bench', root_path=os.getcwd())
     head, tail = page.partition('<p>You are')[0], page.partition('</table>\n')[2]
@@ -172,7 +176,7 @@ def app_of(kind, base, number, page):
 
 
 def by_flask(kind, count, path, page):
-    """The least seconds of the same requests, whose last page is to be this one."""
+    """Returns the least seconds of the same requests with Flask. Its last page has to be this one."""
     times = {name: [] for name in ASKED}
     requests = requests_for(kind, count)
     with base_of(kind, count, path) as base:
@@ -218,7 +222,7 @@ def main(words):
 
 
 def row(kind, count, where, name, ours, theirs):
-    """Prints a line, and gives our time over Flask's, where there is one."""
+    """Prints a line, and returns our time divided by Flask's, if there is one."""
     other = '%10.3f %7.2f' % (1e3 * theirs, ours / theirs) if theirs else '%10s %7s' % ('-', '-')
     print('%-11s %7d  %-7s %-12s %10.3f %s' % (kind.name, count, where, name, 1e3 * ours, other), flush=True)
     return ours / theirs if theirs else None

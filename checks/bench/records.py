@@ -1,11 +1,15 @@
-"""Measures the page of one record among many: an event's of examples/calendar and a paper's of examples/conference.
-Words: the program, and the numbers of records, or none for 1,000 and 16,000. The records are made in memory by a view
-that is added to the application, some twenty by a request of nobody's. Each page is asked on a connection that is kept,
-by somebody who may see the record and by nobody, first behind a `POST`, and then again before anything is stored; a time
-is what the program takes of a processor, the least of all rounds. Where the program knows `--lazy` the same is asked with it. Where Flask
-is installed it makes the same page, byte for byte, from SQLite in memory, by its test client, with the checks and the
-queries written by hand and an index for each of them. docs/COSTS.md has what it said last, with its date. It is no part
-of the gate: what a machine takes is no property of the program."""
+"""Measures the page of one record among many: an event's page of examples/calendar and a paper's page of
+examples/conference. Arguments: the program, and the numbers of records (1,000 and 16,000 by default). A view that is
+added to the application makes the records in memory, some twenty or thirty in each request of nobody. Each page is
+requested on a connection that is kept, by somebody who may see the record and by nobody, first after a `POST`, and then
+again before anything is stored. Times are processor time of the program, the least of all rounds. If the program knows
+`--lazy`, the same is measured with it.
+
+If Flask is installed, it makes the same page, byte for byte, from SQLite in memory, by its test client, with checks and
+queries written by hand and an index for each query.
+
+docs/COSTS.md has the last results, with their date. This isn't part of the gate, since the results depend on the
+machine."""
 import contextlib
 import html
 import os
@@ -21,14 +25,14 @@ from support.serving import processor_seconds, served
 
 SIZES = [1000, 16000]
 ROUNDS = 15
-AGAIN = 25      # how often a page is asked again in a round: about as often in all as of Flask
+AGAIN = 25      # how often a page is requested again in a round: in all about as often as with Flask
 LAZY = '--lazy'
-# who hosts or writes all, who comes or writes too, and who reviews
+# who hosts or writes everything, who is a guest or a second author, and who reviews
 ONE, OTHER, THIRD = (id_of(1, place) for place in (1, 2, 3))
 
 
 class Calendar:
-    """Events, each fourth with a guest, by one host."""
+    """Events of one host. Every fourth has a guest."""
     name, path, share, model = 'calendar', '/event/%d', 32, 1
     people = ['Ann', 'Bob', 'Cleo', 'Dan']
     askers = [('the host', ONE), ('nobody', None)]
@@ -44,7 +48,7 @@ create index guests on guest (event);
 
     @staticmethod
     def fill(base, one, other, request):
-        """Puts in what the request makes; an id is its place among the records of all models."""
+        """Adds what the request makes. The site in an id counts the records of all models."""
         site = 0
         for at in range(Calendar.share):
             event = id_of(request, site, 1)
@@ -101,7 +105,7 @@ create index guests on guest (event);
 
 
 class Conference:
-    """Papers, each third with a second author, each tenth with a conflict, and one of twenty with a review."""
+    """Papers. Every third has a second author, every tenth a conflict, and one of twenty a review."""
     name, path, share, model = 'conference', '/paper/%d', 20, 2
     models = {'paper': 2, 'author': 3, 'conflict': 4, 'review': 6}
     people = ['Carol', 'Ann', 'Ben', 'Rita', 'Raj', 'Rosa']
@@ -143,7 +147,7 @@ insert into conference values (1, 0);
 
     @staticmethod
     def page(base, viewer, paper):
-        """For an author and for nobody: the chair's and the reviewers' forms aren't made here."""
+        """Makes the page for an author and for nobody. The chair's and the reviewers' forms aren't made here."""
         title, abstract, decision = base.execute('select title, abstract, decision from paper where id = ?', (paper,)).fetchone()
         authors = base.execute('select person, name from author join person on person.id = person '
                                'where paper = ? order by author.id', (paper,)).fetchall()
@@ -185,7 +189,7 @@ insert into conference values (1, 0);
 
 
 def known(base, viewer):
-    """What the top of a page says of who looks."""
+    """Returns what the top of a page says about the viewer."""
     said = "Nobody is logged in. <a href='/login'>Log in</a>"
     return '<p>%s</p>\n</header>\n' % (said if viewer is None else 'You are %s.' % html.escape(name_of(base, viewer)))
 
@@ -195,7 +199,7 @@ def name_of(base, person):
 
 
 def read_reply(reader):
-    """The status and the body of one reply, or nothing where the connection was let go before."""
+    """Returns the status and the body of one reply, or None if the connection was closed before."""
     first, length = reader.readline(), 0
     while first:
         head = reader.readline()
@@ -207,7 +211,7 @@ def read_reply(reader):
 
 
 class Line:
-    """A connection that is kept as long as the server keeps it, and then a new one."""
+    """A connection that is kept as long as the server keeps it. Then it is replaced by a new one."""
 
     def __init__(self, run):
         self.run = run
@@ -218,7 +222,7 @@ class Line:
         self.reader = self.line.makefile('rb')
 
     def ask(self, viewer, method, path, body=''):
-        """The status, the body and the seconds."""
+        """Returns the status, the body and the processor seconds."""
         cookie = '' if viewer is None else 'Cookie: session=%d\r\n' % viewer
         form = 'Content-Type: application/x-www-form-urlencoded\r\nContent-Length: %d\r\n' % len(body) if method == 'POST' else ''
         request = '%s %s HTTP/1.1\r\nHost: localhost\r\n%s%s\r\n%s' % (method, path, cookie, form, body)
@@ -239,7 +243,7 @@ class Line:
 
 
 def made(line, kind, count):
-    """Makes the records, and gives the id of one in the middle."""
+    """Makes the records, and returns the id of one in the middle."""
     line.post(None, '/setup')
     requests = requests_for(kind, count)
     third = '&third=%d' % THIRD if kind is Conference else ''
@@ -249,7 +253,7 @@ def made(line, kind, count):
 
 
 def requests_for(kind, count):
-    """The numbers of the requests that make so many records."""
+    """Returns the numbers of the requests that make `count` records."""
     return range(2, 2 + -(-count // kind.share))
 
 
@@ -258,7 +262,8 @@ def one_of(kind, requests):
 
 
 def measured(program, kind, count, folder, options):
-    """The first and the next seconds for each asker, with the page, as the program serves it."""
+    """Returns for each viewer the seconds of the first and of the next requests, and the page, as the program serves
+    it."""
     found = {}
     with served(program, 'app', 1000000, folder, ('--sessions', 'sessions', *options)) as run:
         line = Line(run)
@@ -276,7 +281,7 @@ def measured(program, kind, count, folder, options):
 
 
 def by_flask(kind, count, pages):
-    """The least seconds of the same pages by Flask, or nothing where it isn't installed."""
+    """Returns the least seconds of the same pages with Flask, or nothing if Flask isn't installed."""
     try:
         import flask
     except ImportError:
@@ -316,7 +321,7 @@ def by_flask(kind, count, pages):
 
 
 def knows_lazy(program):
-    """Whether the line of usage names the flag."""
+    """Returns whether the program's usage line names the flag."""
     run = subprocess.run([program], stdin=subprocess.DEVNULL, stdout=subprocess.PIPE, stderr=subprocess.DEVNULL)
     return LAZY.encode() in run.stdout
 

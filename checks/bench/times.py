@@ -1,16 +1,22 @@
-"""Measures the built program. Words: the program, and the numbers of records, or none for 256, 1024 and 4096, and for
-1024, 4096 and 16384 guarded ones.
+"""Measures the built program. Arguments: the program, and the numbers of records (256, 1,024 and 4,096 by default, and
+1,024, 4,096 and 16,384 guarded ones).
 
-For each number N a store of N events is made by N requests, and then each kind of request is asked of it, and a list of
-N users by N events that are theirs. Then the same for N events that are for their host alone, made 64 by a request: there
-each page is made under labels, those of all events where the host of all asks, and none where nobody does. Their list is
-asked again and again, under labels that are kept, and then anew behind a `POST` of nobody. A request costs the processor
-time of a run with some of them less that of the run without, divided by their number, the best of three; what is asked
-anew, less that of its `POST`. `jac demo` is taken whole, the best of three.
-Where Flask is installed it serves the same lists from SQLite in the same run, in one process and by its test client,
-with queries written by hand; the ratio is our time to its. Last stand the bars: what the costs are meant to keep to.
-docs/COSTS.md has what it said last, with its date. It is no part of the gate: what a machine takes is no property of the
-program."""
+For each number N, N requests make a store of N events, and then each kind of request is sent to it. A list of N users
+by N events is measured too, where each user has one event. The same is done for N events that only their host is shown,
+made 64 in a request. There each page is made under labels: those of all events if the host of all requests it, and none
+if nobody does. Their list is requested again and again, under labels that are cached, and then anew after a `POST` of
+nobody.
+
+The cost of a request is the processor time of a run with some of them minus that of the run without them, divided by
+their number, the best of three. If a list is requested anew, the cost of its `POST` is subtracted. `jac demo` is
+measured as a whole, the best of three.
+
+If Flask is installed, it serves the same lists from SQLite in the same run, in one process and by its test client, with
+queries written by hand. The ratio is our time divided by Flask's. Last come the bars, the limits that the costs should
+keep.
+
+docs/COSTS.md has the last results, with their date. This isn't part of the gate, since the results depend on the
+machine."""
 import concurrent.futures
 import os
 import sys
@@ -23,8 +29,8 @@ SIZES = [256, 1024, 4096]
 GUARDED_SIZES = [1024, 4096, 16384]
 HOSTS = 16
 LEAST = 0.4     # seconds that the requests of one measurement take at least
-MOST = 60       # and that a single one may take before larger stores are left out
-PAIRED = [250, 1000, 4000]      # records of each of two models that a query crosses
+MOST = 60       # and that a single one may take before larger stores are skipped
+PAIRED = [250, 1000, 4000]      # records of each of the two models that a query joins
 DEMOS = {1000: 1, 2000: 4}      # requests of a demo, and the seconds that it may take
 
 APPLICATION = r"""(app (viewer User)
@@ -83,16 +89,16 @@ GUARDED = r"""(app (viewer User)
   (for (from ((e Event)) true key) (put (get Event title e)) (put ";"))))
 """ % '\n'.join('  (create e%d Event (set (title title) (host viewer)))' % i for i in range(ROUND))
 
-HOST = 4096     # the record of who hosts all guarded events
+HOST = 4096     # the record of the user who hosts all guarded events
 
-# these make no further event, so that the number of events stays
+# these make no further event, so the number of events stays the same
 JOINED = 'ask %d POST "/join" "name=New"' % HOST
 JOIN = 'ask - POST "/join" "name=New"'
 HOSTED = 'ask %d GET "/list" ""' % HOST
 UNHOSTED = 'ask - GET "/list" ""'
 BY_NOBODY = 'guarded, nobody: a POST'
 
-# what is asked of the guarded ones, the lines that ask it, and the row that is no part of it
+# the requests to the guarded events: their names, their lines, and the row whose cost is subtracted
 GUARDED_ASKED = [
     ('guarded, the host: a POST', [JOINED], None),
     (BY_NOBODY, [JOIN], None),
@@ -103,7 +109,7 @@ GUARDED_ASKED = [
 ]
 CROSSED = 'two binders, N by N'
 
-# what is asked, and its path
+# the requests and their paths
 LISTS = [
     ('one get a record', '/titles'),
     ('two through a reference', '/hosts'),
@@ -139,17 +145,17 @@ def adds(first, count, hosts):
 
 
 def stored(count):
-    """The requests that make the store."""
+    """Returns the requests that make the store."""
     return joins(HOSTS) + adds(0, count, HOSTS)
 
 
 def crossed(count):
-    """The requests that make a store of as many users as events, one event each."""
+    """Returns the requests that make a store of as many users as events, one event for each user."""
     return joins(count) + adds(0, count, count)
 
 
 def guarded(count):
-    """The requests that make the store of guarded events."""
+    """Returns the requests that make the store of guarded events."""
     return ['ask - POST "/join" "name=Ann"'] + ['ask %d POST "/many" "title=Event+%d"' % (HOST, i) for i in range(count // ROUND)]
 
 
@@ -159,8 +165,9 @@ def peak_of(process):
 
 
 def run_once(words):
-    """The status of a run, its processor seconds and peak bytes. The system counts the memory of the process that starts
-    a run, so a peak no greater than this process's own says nothing, and is given as that."""
+    """Returns a run's status, its processor seconds and its peak bytes. The system also counts the memory of the
+    process that starts a run. So a peak that is no greater than this process's own says nothing, and this process's own
+    is returned."""
     own = peak_of(os.getpid())
     child = os.posix_spawn(words[0], words, os.environ, file_actions=[(os.POSIX_SPAWN_OPEN, 1, '/dev/null', os.O_WRONLY, 0)])
     _, status, usage = os.wait4(child, 0)
@@ -168,7 +175,7 @@ def run_once(words):
 
 
 class Bench:
-    """Runs of the program, from a process of its own that stays small."""
+    """Runs the program from a process of its own that stays small."""
 
     def __init__(self, pool, program, folder, application, stored):
         self.pool = pool
@@ -181,7 +188,7 @@ class Bench:
             file.write(application)
 
     def run(self, words):
-        """Processor seconds and peak bytes of one run."""
+        """Returns the processor seconds and the peak bytes of one run."""
         status, took, peak = self.pool.submit(run_once, words).result()
         if status:
             sys.exit('%s ended with %d' % (self.program, status))
@@ -192,7 +199,7 @@ class Bench:
         return min(took for took, _ in runs), max(peak for _, peak in runs)
 
     def replay(self, events):
-        """The words of a run that answers these."""
+        """Returns the command of a run that answers these events."""
         path = os.path.join(self.folder, 'bench.events')
         with open(path, 'w') as file:
             file.write('\n'.join(events) + '\n')
@@ -205,13 +212,13 @@ class Bench:
         return self.best_of(self.replay(events))
 
     def before(self, count):
-        """The run that only makes the store."""
+        """Returns the seconds and the peak of the run that only makes the store."""
         if count not in self.kept:
             self.kept[count] = self.best(self.stored(count))
         return self.kept[count]
 
     def request(self, count, asked):
-        """Seconds of a request and peak bytes, where asked(n) are n of them."""
+        """Returns the seconds of a request and the peak bytes. asked(n) returns n such requests."""
         base, _ = self.before(count)
         store = self.stored(count)
         number = 1
@@ -225,7 +232,7 @@ class Bench:
 
 
 def flask_times(sizes):
-    """Seconds of a request by path and number of records, or nothing where Flask isn't installed."""
+    """Returns the seconds of a request by path and number of records, or nothing if Flask isn't installed."""
     try:
         import flask
     except ImportError:
@@ -280,7 +287,7 @@ def timed(call):
 
 
 class Table:
-    """The lines of the table, and what was measured by name and number of records."""
+    """Prints the lines of the table, and keeps what was measured by name and number of records."""
     def __init__(self, others):
         self.others = others
         self.took = {}
@@ -300,7 +307,7 @@ class Table:
 
 
 def bar(text, value, most):
-    """One bar, which nothing holds or breaks where it wasn't measured."""
+    """Prints one bar. If it wasn't measured, it is neither held nor broken."""
     if value is None:
         print('not measured: %s' % text)
     else:
@@ -337,7 +344,7 @@ def main(words):
 
 
 def measure_crossed(bench, table):
-    """The most memory of each run."""
+    """Returns the most memory of the runs, by number of records."""
     peaks = {}
     for count in PAIRED:
         took, peaks[count] = bench.request(count, lambda number: ['ask - GET "/pairs" ""'] * number)
@@ -353,7 +360,7 @@ def measure_guarded(bench, table, sizes):
 
 
 def rename(count, number):
-    """Updates, one after the other, of records from all over the table."""
+    """Returns updates of records from all over the table, one after the other."""
     first = HOSTS + 1
     return ['ask - POST "/rename" "event=%d&title=New+%d"' % ((first + i * 37 % count) * 4096 + 1, i) for i in range(number)]
 

@@ -38,7 +38,7 @@ def write(text, *names):
 
 
 def placed(text, changes):
-    """The text with each of these changed, all of which stand in it."""
+    """Returns the text with each of these changes made. Every text to be changed must be in it."""
     for old, new in changes:
         assert old in text, old
         text = text.replace(old, new)
@@ -63,7 +63,7 @@ def shows(name, answer, *texts, but=()):
 
 
 def secured(name, headers, but=()):
-    """The headers that every page has, and no version of a server."""
+    """Checks that the headers of every page are there, and that no header names a server's version."""
     for header, value in SECURITY.items():
         if header not in but and headers.get_all(header) != [value]:
             return '%s: %s is %r' % (name, header, headers.get_all(header))
@@ -73,7 +73,7 @@ def secured(name, headers, but=()):
 
 
 def account(folder, *words, password=None, at=DEPLOY):
-    """A run of account.py: its status, its output and what it told."""
+    """Runs account.py. Returns its status, its output and its standard error."""
     done = subprocess.run([sys.executable, os.path.join(at, 'account.py'), folder, *words], text=True,
                           input='' if password is None else password + '\n', stdout=subprocess.PIPE,
                           stderr=subprocess.PIPE)
@@ -81,7 +81,8 @@ def account(folder, *words, password=None, at=DEPLOY):
 
 
 def settle(folder, program, **changes):
-    """Writes accounts.ini as it is in deploy/, for a folder of its own; reloads are noted in the folder."""
+    """Writes accounts.ini as it is in deploy/, changed for a folder of its own. Restarts and reloads leave a file in
+    that folder."""
     lines = {'program': program, 'application': os.path.join(folder, 'app'), 'bcrypt cost': '4',
              'store': os.path.join(folder, 'store.db'), 'restart jac': 'touch %s/restarted' % folder,
              'reload front': 'touch %s/reloaded' % folder, 'jac group': 'root', 'front group': 'www-data', **changes}
@@ -93,7 +94,7 @@ def settle(folder, program, **changes):
 
 
 def add_accounts(folder):
-    """The accounts of the checks, and the token of each that has one."""
+    """Adds the accounts of the checks. Returns the token of each account that has one."""
     for name, viewer in VIEWERS.items():
         status, _, told = account(folder, 'add', name, viewer, password=PASSWORDS[name])
         assert status == 0, told
@@ -109,7 +110,7 @@ def certify(folder):
 
 
 def until(holds, seconds=20.0):
-    """Waits until it holds, and whether it does."""
+    """Waits until `holds()` is true. Returns whether it became true in time."""
     deadline = time.monotonic() + seconds
     while not holds():
         if time.monotonic() > deadline:
@@ -119,7 +120,7 @@ def until(holds, seconds=20.0):
 
 
 class Client:
-    """Requests to a site with TLS, each on a connection of its own."""
+    """Sends requests to a site with TLS, each on a connection of its own."""
 
     def __init__(self, port, trusted, host=HOST_NAME):
         self.port, self.trusted, self.own = port, trusted, 'https://%s:%d' % (host, port)
@@ -129,7 +130,7 @@ class Client:
         return self.own + path
 
     def ask(self, method, path, headers=(), body=None, host=None):
-        """The status, the headers and the body of a reply."""
+        """Returns the status, the headers and the body of the reply."""
         line = http.client.HTTPSConnection('localhost', self.port, timeout=20, context=self.trusted)
         with contextlib.closing(line):
             line.putrequest(method, path, skip_host=True)
@@ -147,7 +148,7 @@ class Client:
 
 
 def plain(port, path, host=HOST_NAME):
-    """The status and the place that a request without TLS is sent to."""
+    """Sends a request without TLS. Returns the status, and where the reply redirects to."""
     line = http.client.HTTPConnection(HOST, port, timeout=20)
     with contextlib.closing(line):
         line.request('GET', path, headers={'Host': host})
@@ -156,12 +157,12 @@ def plain(port, path, host=HOST_NAME):
 
 
 def unit_line(unit, changes):
-    """The words that a unit starts the program with, with its places changed."""
+    """Returns the command by which a unit starts the program, with its paths changed."""
     return shlex.split(placed(re.search(r'^ExecStart=(.*)$', read(DEPLOY, unit), re.M)[1], changes))
 
 
 def socket_of(unit, port):
-    """The port, open as a socket unit has it."""
+    """Returns a socket that listens on the port, opened as a socket unit does it."""
     text = read(DEPLOY, unit)
     made = socket.socket()
     made.setsockopt(socket.SOL_SOCKET, socket.SO_REUSEADDR, 1)
@@ -171,7 +172,7 @@ def socket_of(unit, port):
     return made
 
 
-# Runs the words that follow with the descriptor of the first word as number 3, as systemd hands a socket over.
+# Runs a command. The descriptor that the first argument names becomes descriptor 3, as systemd passes a socket on.
 HAND_OVER = '''import os, sys
 if int(sys.argv[1]) != 3: os.dup2(int(sys.argv[1]), 3)
 os.set_inheritable(3, True)
@@ -180,7 +181,7 @@ os.execv(sys.argv[2], sys.argv[2:])'''
 
 
 class Service:
-    """jac as a unit starts it, and started again whenever it ends. Where the port is handed over, it stays open."""
+    """jac as a unit starts it. It is started again whenever it ends. A socket that is passed on to it stays open."""
 
     def __init__(self, words, port, pid, handed=None):
         self.words, self.port, self.pid, self.runs, self.stopped = words, port, pid, [], False
@@ -206,7 +207,7 @@ class Service:
         until(lambda: is_listening(self.port))
 
     def restart(self):
-        """As `systemctl restart` does."""
+        """Restarts the service as `systemctl restart` does."""
         count = len(self.runs)
         self.runs[-1].terminate()
         until(lambda: len(self.runs) > count)
@@ -222,7 +223,7 @@ class Service:
 
 
 def service(program, folder, port, count=1000000, handed=False):
-    """The service of one application, jac.service."""
+    """Starts the service of one application, jac.service."""
     assert 'Restart=always' in read(DEPLOY, 'jac.service') and 'RestartSec=100ms' in read(DEPLOY, 'jac.service')
     words = unit_line('jac.service', [('/usr/local/bin/jac', program), ('/etc/jac/calendar/', folder + '/'),
                                       (' 8080 ', ' %d ' % port), (' 1000000 ', ' %d ' % count),
@@ -232,24 +233,24 @@ def service(program, folder, port, count=1000000, handed=False):
 
 
 def close(run):
-    """Ends a server that was started here, and gives what it said."""
+    """Ends a server that was started here. Returns its output."""
     run.terminate()
     return run.communicate(timeout=20)[0]
 
 
 def site_files(folder):
-    """What /srv/jac has: the pages of accounts and a style sheet."""
+    """Makes what /srv/jac has: the account pages and a style sheet."""
     os.makedirs(os.path.join(folder, 'static'))
     shutil.copytree(os.path.join(DEPLOY, 'account'), os.path.join(folder, 'account'))
     write('body { color: #223 }\n', folder, 'static', 'style.css')
 
 
 class Skipped(str):
-    """A result of a part that was left out: why."""
+    """The result of a part that was skipped: the reason."""
 
 
 def report(results):
-    """Prints what failed and what was left out, then the counts, and ends."""
+    """Prints what failed and what was skipped, then the counts, and exits."""
     failed = skipped = passed = 0
     for result in results:
         if isinstance(result, Skipped):

@@ -1,5 +1,5 @@
-"""Cases that fail because something came late, and for no other reason that is known. Another program may take the
-machine for a moment, so they are looked at again, a bounded number of times. What is late in each look fails."""
+"""Cases that fail because something was late, and for no other known reason. Another program may keep the machine busy
+for a moment, so such cases are repeated a bounded number of times. A case that is late each time fails."""
 import http.client
 import socket
 import subprocess
@@ -7,7 +7,7 @@ import sys
 import time
 
 LOOKS = 6
-# What ends a part early where a client or the program was too slow: a connection that was let go, or a wait that ended.
+# What ends a part early if a client or the program was too slow: a closed connection, or a wait that timed out.
 ENDINGS = TimeoutError, ConnectionError, http.client.HTTPException, subprocess.TimeoutExpired
 
 
@@ -23,7 +23,7 @@ while True:
 
 
 class Plain:
-    """A server of Python's own, a process beside this one: what its page takes says how late the machine is."""
+    """A plain Python server in a process of its own. How long its page takes shows how slow the machine is."""
 
     def __enter__(self):
         self.run = subprocess.Popen([sys.executable, '-c', PLAIN], stdin=subprocess.DEVNULL, stdout=subprocess.PIPE,
@@ -32,7 +32,7 @@ class Plain:
         return self
 
     def seconds(self):
-        """What a page of it takes, once there is a connection."""
+        """Returns how long a page takes once its connection is open."""
         with socket.create_connection(('127.0.0.1', self.port), timeout=20) as line:
             began = time.monotonic()
             line.sendall(b'GET / HTTP/1.0\r\n\r\n')
@@ -47,26 +47,28 @@ class Plain:
 
 
 class Late(str):
-    """A case that may have failed in nothing but its time."""
+    """A case that may have failed only because something was late."""
 
 
 def all_of(name, have, want):
-    """Whether all of these bytes came. Where the last ones didn't, the connection may have been let go before them."""
+    """Checks that all of these bytes came. If only the last ones are missing, the connection may have been closed
+    before them."""
     if have == want:
         return None
     return (Late if want.startswith(have) else str)('%s: %r, not %r' % (name, have, want))
 
 
 def as_many(name, have, want):
-    """Whether there are as many as are wanted. Where there are fewer, the connection may have been let go before."""
+    """Checks that there are as many as wanted. If there are fewer, the connection may have been closed before the
+    others."""
     if have == want:
         return None
     return (Late if have < want else str)('%s: %d, not %d' % (name, have, want))
 
 
 def looked_at(name, part, looks=LOOKS):
-    """What a part lacks, if anything, by the first look in which nothing was late, or by the last one. The looks are
-    further and further apart."""
+    """Runs a part until nothing in it is late, at most `looks` times. Returns the results of the last run. The pauses
+    between the runs get longer."""
     for look in range(looks):
         time.sleep(look)
         try:

@@ -1,5 +1,5 @@
-"""Tables of docs/ that a script writes: each stands between two marks, `<!-- NAME: SCRIPT writes this -->` and
-`<!-- NAME: its end -->`."""
+"""Tables of docs/ that a script writes. Each is between two marks, `<!-- NAME: SCRIPT writes this -->` and `<!-- NAME:
+its end -->`."""
 import os
 import sys
 
@@ -9,9 +9,9 @@ from arguments import script_parser                                         # no
 
 
 def page_parser():
-    """A parser for the words of a script that compares its tables with their page, or writes them."""
+    """Returns a parser for the arguments of a script that compares its tables with their page, or writes them."""
     parser = script_parser()
-    parser.add_argument('--write', action='store_true', help='write the tables anew, instead of comparing them')
+    parser.add_argument('--write', action='store_true', help='rewrite the tables instead of comparing them')
     return parser
 
 
@@ -30,7 +30,8 @@ def with_tables(text, tables, script):
 
 
 def differences(path, tables, script, write):
-    """What the page lacks or has beyond the tables; where it is to be written, it is, and then nothing."""
+    """Returns the lines in which the page differs from the tables. With `write`, writes the tables into the page and
+    returns nothing."""
     text = read(path)
     fresh = with_tables(text, tables, script)
     if text == fresh:

@@ -1,5 +1,6 @@
-"""The program that a check runs: by the script `jac` the proved one, built of the sources as they are, or none; the
-script is told so by JAC_PROVED. Any other file is run as it is, and of a trial it is said that it isn't proved."""
+"""The program that a check runs. For the script `jac` that is the proved program, if it was built from the present
+sources. Otherwise the check ends. JAC_PROVED tells the script to run no other program. Any other file is run as it is.
+If that file is a trial, the check says that it isn't proved."""
 import os
 import subprocess
 import sys
@@ -18,7 +19,7 @@ def is_script(path):
 
 
 def words(**further):
-    """The script's words: the program, and further ones, each by its name with what argparse is told of it."""
+    """Reads the script's arguments: the program, and further ones, each by its name with its options for argparse."""
     parser = script_parser()
     parser.add_argument('program', metavar='PROGRAM', help='./jac for the proved program, or the path of a program')
     for name, told in further.items():
@@ -27,12 +28,13 @@ def words(**further):
 
 
 def first_word():
-    """The program, where that is the script's only word."""
+    """Reads the arguments of a script whose only argument is the program. Returns the program."""
     return words().program
 
 
 def program(word):
-    """The path of what is to be run for this word. Where it is the script and there is no such program, the check ends."""
+    """Returns the path of what this argument runs. If it is the script and there is no proved program of these sources,
+    the check ends."""
     path = os.path.abspath(word)
     os.environ['JAC_PROVED'] = '1'
     if is_script(path):
@@ -46,6 +48,7 @@ def program(word):
 
 
 def binary(word):
-    """The program itself: where the script is named, allocations of the shell are none of its own."""
+    """Returns the program itself, even if the script is given. So the shell's allocations don't count as the
+    program's."""
     path = program(word)
     return PROVED if is_script(path) else path

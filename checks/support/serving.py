@@ -1,5 +1,6 @@
-"""Runs of the program's command `serve` for the checks: on a port that is free, until they end or are no longer wanted.
-Several checks may run at once, so a port that was free may be taken a moment later. Then another one is tried."""
+"""Runs of the program's command `serve` for the checks. Each listens on a free port until it ends or is no longer
+needed. Several checks may run at once, so a port that was free may be taken a moment later. Then another one is
+tried."""
 import contextlib
 import os
 import socket
@@ -7,8 +8,8 @@ import subprocess
 import time
 
 HOST = '127.0.0.1'
-PORTS = 5       # that are tried
-TAKEN = 8       # the status of a run whose port is taken
+PORTS = 5       # how many ports are tried
+TAKEN = 8       # the exit status of a run whose port is taken
 
 
 def free_port():
@@ -18,19 +19,19 @@ def free_port():
 
 
 def doors(port):
-    """The sockets that listen on the port, found without a connection to it: state 0A in Linux's table."""
+    """Returns the sockets that listen on the port. They are found without connecting: state 0A in Linux's table."""
     with open('/proc/net/tcp') as table:
         rows = [line.split() for line in table.readlines()[1:]]
     return ['socket:[%s]' % row[9] for row in rows if int(row[1].partition(':')[2], 16) == port and row[3] == '0A']
 
 
 def is_listening(port):
-    """Whether somebody listens on the port."""
+    """Returns whether some process listens on the port."""
     return bool(doors(port))
 
 
 def listens(process, port):
-    """Whether this process is the one that listens on the port."""
+    """Returns whether this process listens on the port."""
     found = doors(port)
     if not found:
         return False
@@ -44,18 +45,18 @@ def listens(process, port):
 
 
 def processor_seconds(process):
-    """What all threads of the process have taken of a processor, by the system's clock for it."""
+    """Returns the processor time that all threads of the process have used, by the system's clock for it."""
     return time.clock_gettime((~process << 3) | 2)
 
 
 class Served:
-    """A run under way."""
+    """A run of `serve`."""
 
     def __init__(self, run, port):
         self.run, self.port, self.told = run, port, None
 
     def connect(self, room=None):
-        """A connection, on which only so many bytes are taken before they are read, where that is said."""
+        """Opens a connection. `room` is the size of its receive buffer, if it is given."""
         line = socket.socket()
         line.settimeout(20)
         if room is not None:
@@ -68,7 +69,7 @@ class Served:
         return 'http://%s:%d%s' % (HOST, self.port, path)
 
     def end(self):
-        """The status and the output, once it ended by itself; what it told on standard error stays in `told`."""
+        """Waits until the run ends by itself. Returns its status and its output. Its standard error is in `told`."""
         out, self.told = self.run.communicate(timeout=30)
         return self.run.returncode, out
 
@@ -85,7 +86,7 @@ def end(run):
 
 
 def begin(program, app, count, folder, options):
-    """A run that listens, or ended, and its port."""
+    """Starts a run. Returns it when it listens or has ended, with its port."""
     for left in reversed(range(PORTS)):
         port = free_port()
         words = [program, 'serve', app, str(port), str(count), *options]
@@ -101,7 +102,8 @@ def begin(program, app, count, folder, options):
 
 @contextlib.contextmanager
 def served(program, app, count, folder, options=()):
-    """The application, served on a free port to so many connections. What still runs in the end is killed."""
+    """Serves the application on a free port, for `count` connections. If the run hasn't ended at the end, it is
+    killed."""
     run, port = begin(program, app, count, folder, options)
     try:
         yield Served(run, port)
