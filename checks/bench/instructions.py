@@ -27,6 +27,7 @@ COUNTED = re.compile(r'I\s+refs:\s+([\d,]+)')
 SMALL = '(app\n (view get "/" (params) (put "ten bytes!")))\n'
 RECEIVED = r'data 1 "GET / HTTP/1.1\r\nHost: localhost\r\n\r\n"'
 VIEWS = 2500
+TITLE = ' (view get "/title/{id}" (params (id (ref Event))) (esc (get Event title id)))'
 
 
 class Row:
@@ -108,6 +109,11 @@ def rows(folder):
         kind, how = (SmallRow, ', lazily') if options else (Row, '')
         yield kind('one of %d events%s, the host' % (count, how), calendar, filled(Calendar, count), page % (ONE, path),
                    goal=goal, options=options)
+    titled = calendar[:calendar.rindex(')')] + TITLE + ')\n'
+    for count in (1024, 16384):
+        path = (Calendar.path % one_of(Calendar, requests_for(Calendar, count))).replace('event', 'title')
+        yield SmallRow('the title of one of %d events, lazily' % count, titled, filled(Calendar, count),
+                       page % (ONE, path), goal=40000, options=('--lazy',))
     yield Row('a page of 10 bytes, on a connection', SMALL, ['open 1'], RECEIVED, goal=15000, more=MOST)
     yield Row('a page of 10 bytes, an ask', SMALL, [], 'ask - GET "/" ""', more=MOST)
     yield Check(VIEWS)
