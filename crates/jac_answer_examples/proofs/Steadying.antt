@@ -5,7 +5,7 @@ use Rattle.jac_world.specs.World.{shown_by}
 use Rattle.jac_lang.specs.Syntax.{Application}
 use Rattle.jac_plain.specs.Requests.{Visit, Worlds, page}
 use Rattle.jac_plain.specs.Policies.{with_label, IsLiveLabel}
-use Rattle.jac_pruned.specs.Consulted.{Agrees}
+use Rattle.jac_shown_rows.specs.Consulted.{Agrees}
 use Rattle.jac_lazy.specs.Steady.{AlwaysAllows, AlwaysForbids, IsSteady}
 use Rattle.jac_replies.specs.declared.answer.Answer.{Answer}
 use Rattle.jac_engine.specs.Answers.{lazy_answer, IsLazyPage}

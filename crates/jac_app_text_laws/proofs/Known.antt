@@ -8,7 +8,7 @@ use Rattle.jac_open_app_laws.specs.Open.{is_open_app}
 use Rattle.jac_open_app_laws.specs.Owned.{DependOnOwn, HideNothing, is_stored_openly}
 use Rattle.jac_open_app_laws.proofs.OwnedRuns.{still_own}
 use Rattle.jac_plain.specs.Requests.{Visit, Worlds, after}
-use Rattle.jac_pruned.specs.Local.{is_local_app}
+use Rattle.jac_shown_rows.specs.Local.{is_local_app}
 use Rattle.jac_app_text_laws.specs.Eight.{eight_text}
 use Rattle.jac_app_text_laws.proofs.EightOpens.{eight, eight_is}
 use Rattle.jac_app_text_laws.proofs.OneSpelled.{one_spelled}

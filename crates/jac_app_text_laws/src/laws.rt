@@ -5,7 +5,7 @@ ghost use Rattle.jac_open_app_laws.specs.Open.{is_open_app};
 ghost use Rattle.jac_open_app_laws.specs.Owned.{DependOnOwn};
 ghost use Rattle.jac_app_load.specs.Application.{IsApplication};
 ghost use Rattle.jac_plain.specs.Requests.{Visit, Worlds, after};
-ghost use Rattle.jac_pruned.specs.Local.{is_local_app};
+ghost use Rattle.jac_shown_rows.specs.Local.{is_local_app};
 ghost use Rattle.jac_app_text_laws.specs.Eight.{eight_text};
 
 /// A law: bytes spell one application at most.

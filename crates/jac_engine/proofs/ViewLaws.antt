@@ -27,7 +27,7 @@ use Rattle.jac_plain.specs.Statements.{Setting, Run, world_of, value_in, scoped_
 use Rattle.jac_plain.proofs.NewLaws.{creates_new, absent_before_number}
 use Rattle.jac_keep.proofs.SoundLaws.{sound-applied}
 use Rattle.jac_keep.proofs.WorkLaws.{overlaid_none}
-use Rattle.jac_pruned.specs.Runs.{page_ran}
+use Rattle.jac_pruned_pages.specs.Runs.{page_ran}
 use Rattle.jac_route.specs.Parameters.{parameters}
 use Rattle.jac_write.specs.Writes.{numbered_tables}
 use Rattle.jac_write.proofs.RecordLaws.{rising_at}

@@ -10,7 +10,7 @@ use Rattle.jac_plain.specs.declared.page.Page.{Page}
 use Rattle.jac_plain.specs.declared.page.Piece.{Piece}
 use Rattle.jac_plain.specs.Policies.{IsSettled}
 use Rattle.jac_plain.specs.Requests.{Visit, Worlds, method_in, page_of, page, after}
-use Rattle.jac_pruned.specs.Consulted.{Agrees}
+use Rattle.jac_shown_rows.specs.Consulted.{Agrees}
 use Rattle.jac_lazy.specs.Steady.{IsSteady}
 use Rattle.jac_route.specs.Found.{found}
 use Rattle.jac_route.specs.Parameters.{parameters}

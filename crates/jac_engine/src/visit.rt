@@ -17,7 +17,7 @@ ghost use Rattle.jac_engine.specs.Visits.{app_of, found_view, request_at, viewer
 ghost use Rattle.jac_lazy.specs.Steady.{IsPageOf, IsSteady};
 ghost use Rattle.jac_engine.specs.Views.{IsReady, SettlesView, ShowsView, LeavesTables, RunsView};
 ghost use Rattle.jac_plain.specs.Shown.{worlds_of};
-ghost use Rattle.jac_pruned.specs.Runs.{IsPageMade};
+ghost use Rattle.jac_pruned_pages.specs.Runs.{IsPageMade};
 
 use crate::lookup::Visited;
 use crate::parameters::bind_alike;
@@ -27,9 +27,10 @@ use jac_lazy::{LazyPage, page_lazily};
 use jac_plain::{Ctx, Page};
 use jac_policy_cache::{Invalidation, ViewerCache};
 use jac_policy_deps::invalidation_of;
-use jac_pruned::{Support, WorldContext, run_body_at};
+use jac_pruned_pages::run_body_at;
 use jac_resolve::{cache_moves, settle_cache, settled_by_tables, valid_by_tables};
 use jac_route::bind;
+use jac_shown_rows::{Support, WorldContext};
 use jac_stmt::{Frame, Out, exec, page_of};
 use jac_world::{Assignment, Guard, Steps};
 use std::alloc::Global;

@@ -6,7 +6,7 @@ use Rattle.jac_world.proofs.Inserting.{shown-inserted, ascending-inserted}
 use Rattle.jac_lang.specs.Syntax.{Application}
 use Rattle.jac_plain.specs.Requests.{Worlds}
 use Rattle.jac_plain.specs.Policies.{with_label, IsLiveLabel, ShowsForbidden, AreAllowed, IsSettled}
-use Rattle.jac_pruned.specs.Consulted.{Agrees}
+use Rattle.jac_shown_rows.specs.Consulted.{Agrees}
 use Rattle.jac_lazy.specs.Steady.{AlwaysForbids, IsSteady}
 use Rattle.jac_lazy.specs.Filled.{Adds, IsFilled}
 

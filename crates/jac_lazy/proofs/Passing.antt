@@ -5,7 +5,7 @@ use Rattle.jac_world.specs.World.{shown_by, IsAscending}
 use Rattle.jac_lang.specs.Syntax.{Application}
 use Rattle.jac_plain.specs.Requests.{Worlds}
 use Rattle.jac_plain.specs.Policies.{is_allowed}
-use Rattle.jac_pruned.specs.Consulted.{Agrees}
+use Rattle.jac_shown_rows.specs.Consulted.{Agrees}
 use Rattle.jac_policy_cache.specs.declared.policy_memo.PolicyMemo.{PolicyMemo}
 use Rattle.jac_policy_cache.specs.Memo.{AreWatched, recall, watches}
 use Rattle.jac_resolve.specs.RightMemo.{AreRight, IsPassed, IsUnderway, RemembersForbidden}

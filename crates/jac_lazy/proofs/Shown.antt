@@ -10,9 +10,9 @@ use Rattle.jac_rows.specs.declared.state.State.{State}
 use Rattle.jac_plain.specs.declared.context.Ctx.{Ctx}
 use Rattle.jac_plain.specs.Requests.{Worlds, body_in, page, page_of}
 use Rattle.jac_plain.specs.Statements.{leaves_all}
-use Rattle.jac_pruned.specs.Consulted.{Grows}
-use Rattle.jac_pruned.specs.Runs.{page_ran, run_in}
-use Rattle.jac_pruned.proofs.Growing.{grows_then}
+use Rattle.jac_shown_rows.specs.Consulted.{Grows}
+use Rattle.jac_pruned_pages.specs.Runs.{page_ran, run_in}
+use Rattle.jac_shown_rows.proofs.Growing.{grows_then}
 use Rattle.jac_policy_cache.specs.declared.policy_memo.PolicyMemo.{PolicyMemo}
 use Rattle.jac_policy_cache.specs.Memo.{watches}
 use Rattle.jac_resolve.specs.RightMemo.{IsPassed}

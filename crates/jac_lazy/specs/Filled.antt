@@ -7,7 +7,7 @@ use Rattle.jac_plain.specs.Policies.{is_allowed, with_label, IsLiveLabel, ShowsF
 use Rattle.jac_plain.specs.Requests.{Visit, Worlds, page}
 use Rattle.jac_rows.specs.declared.plain.PlainState.{PlainState}
 use Rattle.jac_plain.specs.declared.page.Page.{Page}
-use Rattle.jac_pruned.specs.Consulted.{Agrees}
+use Rattle.jac_shown_rows.specs.Consulted.{Agrees}
 
 -- labels are added one after another, each live and none of those that were consulted; all that are
 -- then shown are allowed each time

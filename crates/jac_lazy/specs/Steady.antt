@@ -5,7 +5,7 @@ use Rattle.jac_lang.specs.Syntax.{Application}
 use Rattle.jac_plain.specs.Policies.{is_allowed, with_label, IsLiveLabel}
 use Rattle.jac_plain.specs.Requests.{Visit, Worlds, page}
 use Rattle.jac_plain.specs.declared.page.Page.{Page}
-use Rattle.jac_pruned.specs.Consulted.{Agrees}
+use Rattle.jac_shown_rows.specs.Consulted.{Agrees}
 
 -- the label is allowed, whatever else is shown beside what was consulted
 pub record AlwaysAllows (app : Application) (worlds : Worlds) (viewer : Option ℕ)

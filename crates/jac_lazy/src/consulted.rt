@@ -1,7 +1,7 @@
 //! Labels that were consulted, handed out.
 ghost use Rattle.std.specs.Prelude.{◌≡◌, IfOk};
 
-use jac_pruned::Support;
+use jac_shown_rows::Support;
 use jac_value::Memory;
 use jac_world::Assignment;
 use std::alloc::Global;

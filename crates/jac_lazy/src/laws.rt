@@ -4,7 +4,7 @@ ghost use Rattle.jac_lang.specs.Syntax.{Application};
 ghost use Rattle.jac_plain.specs.Policies.{IsSettled};
 ghost use Rattle.jac_plain.specs.Requests.{Visit, Worlds};
 ghost use Rattle.jac_plain.specs.declared.page.Page.{Page};
-ghost use Rattle.jac_pruned.specs.Consulted.{Agrees};
+ghost use Rattle.jac_shown_rows.specs.Consulted.{Agrees};
 ghost use Rattle.jac_policy_cache.specs.declared.policy_memo.PolicyMemo.{PolicyMemo};
 ghost use Rattle.jac_resolve.specs.RightMemo.{IsPassed};
 ghost use Rattle.jac_resolve.specs.Rounds.{AreLive};

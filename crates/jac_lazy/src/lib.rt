@@ -1,6 +1,6 @@
 //! Pages that are made after only those labels are resolved that the page and their policies
 //! consult.
-#![tactic(auto, using(jac_pruned::proofs::Growing::grows_same, jac_pruned::proofs::Growing::grows_then, jac_pruned::proofs::Growing::agrees_less))]
+#![tactic(auto, using(jac_shown_rows::proofs::Growing::grows_same, jac_shown_rows::proofs::Growing::grows_then, jac_shown_rows::proofs::Growing::agrees_less))]
 
 mod consulted;
 mod laws;

@@ -11,7 +11,8 @@ use Rattle.jac_plain.specs.Expressions.{key_of, sorted_tuples}
 use Rattle.jac_plain.specs.World.{World, got}
 use Rattle.jac_query.specs.Sorted.{insert_by, sorted_by, value_less, key_less}
 use Rattle.jac_pruned.specs.OneSorted.{id_less, keyed_each}
-use Rattle.jac_pruned.specs.Tupled.{keyed_by, lengthened_tuples}
+use Rattle.jac_pruned.specs.Tupled.{keyed_by}
+use Rattle.jac_shown_rows.specs.RecordIds.{lengthened_tuples}
 use Rattle.jac_pruned.proofs.Keyed.{sorted-is}
 
 pub id-order : (down : Bool) → IsStrictWeakOrder (id_less down)

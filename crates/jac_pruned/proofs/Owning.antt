@@ -34,15 +34,18 @@ use Rattle.jac_value.specs.contracts.value.ValuePartialEq.TheImpl as equality
 use Rattle.jac_index_choice.specs.Fixed.{behind_first}
 use Rattle.jac_pruned.specs.Wanted.{Wanted, first_shown, firsts_wanted, rows_with_value, rows_wanted, shown_wanted, tuples_wanted}
 use Rattle.jac_plain.specs.Expressions.{mean, is_true, two, nearest, look_from, bound, binding, extended_tuples, crossed_tuples, tuples_from, kept_by, with_sorted, sorted_tuples, ordered_tuples, answers_by, is_less, key_of, summed_terms, some_of, first_of, pick, is_single, model_of_binder}
-use Rattle.jac_pruned.specs.Local.{is_free, is_free_place, is_free_model, is_free_kind, is_free_field_at, is_free_field_in, is_free_viewer_of, is_free_viewer, are_free, is_free_order, refers_free, IsOwnLabel, IsOfViewers, IsLocalCase}
+use Rattle.jac_shown_rows.specs.Local.{is_free, is_free_place, is_free_model, is_free_kind, is_free_field_at, is_free_field_in, is_free_viewer_of, is_free_viewer, are_free, is_free_order, refers_free, IsOwnLabel, IsOfViewers, IsLocalCase}
+use Rattle.jac_shown_rows.proofs.OwnRows.{all_less, all_if, all_append, all_with_id, any_read, rows_of_table}
 use Rattle.jac_plain.specs.Models.{is_none, shapes_of, kinds_of_fields, shapes_of_models}
 use Rattle.jac_plain.specs.Policies.{is_some_group}
 use Rattle.jac_plain.specs.World.{World, records, rows_at_place, record_with, referred_record, cell_of, cell_named, got_of}
-use Rattle.jac_pruned.specs.Tupled.{first_bound, but_last, left_behind, lengthened_tuples, lengthened_all, row_ids}
+use Rattle.jac_shown_rows.specs.RecordIds.{first_bound, lengthened_tuples, row_ids}
+use Rattle.jac_pruned.specs.Tupled.{but_last, left_behind, lengthened_all}
 use Rattle.jac_pruned.specs.Begun.{IsBegun}
 use Rattle.jac_pruned.proofs.Bound.{bound-longer}
-use Rattle.jac_pruned.proofs.Rows.{rows_of-project}
-use Rattle.jac_pruned.specs.Own.{is_of, IsOwn, is_own_pair, names_own, has_own_guard, is_own_row, are_own_rows, is_own_table, reads_own, stands_own, table_at, table_named, are_own_tables, is_own_order, is_free_value, is_free_env, begins_free, IsLocally}
+use Rattle.jac_shown_rows.proofs.Rows.{rows_of-project}
+use Rattle.jac_shown_rows.specs.Own.{is_of, IsOwn, is_own_pair, names_own, has_own_guard, is_own_row, are_own_rows, is_own_table, reads_own, stands_own, table_at, table_named}
+use Rattle.jac_pruned.specs.Locally.{are_own_tables, is_own_order, is_free_value, is_free_env, begins_free, IsLocally}
 
 -- tests of all
 
@@ -52,40 +55,6 @@ itself x = grind (arith, nat_tests)
 if_test : (a b : Bool) → (a ≡ true → b ≡ true) → (not a || b) ≡ true
 if_test true b h = h refl
 if_test false b h = refl
-
-pub or_less : (a b c : Bool) → (b ≡ true → c ≡ true) → (a || b) ≡ true → (a || c) ≡ true
-or_less true b c h t = refl
-or_less false b c h t = h t
-
--- what one test lets pass another does
-pub all_less : {X : Type 0} (p q : X → Bool) → ((x : X) → p x ≡ true → q x ≡ true) → (xs : List X) → list_all p xs ≡ true → list_all q xs ≡ true
-all_less p q f [] h = refl
-all_less p q f (x ∷ xs) h = let a = and_parts (p x) (list_all p xs) h in and_from (q x) (list_all q xs) (f x a.0) (all_less p q f xs a.1)
-
-all_if : {X : Type 0} (p : X → Bool) (b : Bool) (x : X) (xs : List X) → p x ≡ true → list_all p xs ≡ true → list_all p (if b then x ∷ xs else xs) ≡ true
-all_if p true x xs h hs = and_from (p x) (list_all p xs) h hs
-all_if p false x xs h hs = hs
-
-all_append : {X : Type 0} (p : X → Bool) (xs ys : List X) → list_all p xs ≡ true → list_all p ys ≡ true → list_all p (xs ++ ys) ≡ true
-all_append p xs ys h g = list_all-append p xs ys ∙ and_from (list_all p xs) (list_all p ys) h g
-
--- one of them by its place
-pub all_at : {X : Type 0} (p : X → Bool) (xs : List X) (x : X) (i : ℕ) → x ≡ get_or xs i x → i < length xs → list_all p xs ≡ true → p x ≡ true
-all_at p [] x i item below h = absurd (omega (arith, below))
-all_at p (y ∷ xs) x zero item below h = ap p item ∙ (and_parts (p y) (list_all p xs) h).0
-all_at p (y ∷ xs) x (suc i) item below h = all_at p xs x i item (omega (arith, below)) (and_parts (p y) (list_all p xs) h).1
-
-pub all_head : {X : Type 0} (p : X → Bool) (x : X) (xs all : List X) → all ≡ x ∷ xs → list_all p all ≡ true → (p x ≡ true) × (list_all p xs ≡ true)
-all_head p x xs all e h = and_parts (p x) (list_all p xs) (ap (list_all p) (sym e) ∙ h)
-
-pub all_with_id : (p : Row → Bool) (test : ℕ → Bool) (rows : List Row) → list_all p rows ≡ true → list_all p (with_id test rows) ≡ true
-all_with_id p test [] h = refl
-all_with_id p test (r ∷ rows) h =
-    let a = and_parts (p r) (list_all p rows) h in
-    all_if p (test r.id) r (with_id test rows) a.0 (all_with_id p test rows a.1)
-
-pub all_alternatives : (p : Row → Bool) (id : ℕ) (rows : List Row) → list_all p rows ≡ true → list_all p (alternatives id rows) ≡ true
-all_alternatives p id rows h = all_with_id p (λ i. i == id) rows h
 
 all_found : (p : Row → Bool) (b : Bool) (f : ℕ) (v : Value) (rows : List Row) → list_all p rows ≡ true → list_all p (if b then rows else holders f v rows) ≡ true
 all_found p true f v rows h = h
@@ -116,18 +85,6 @@ module _ (P : Row → Type 0) where
   each_wanted : (models : List Entity) (m : ℕ) (o : Option Wanted) (rows : List Row) → AllByRecursion P rows → AllByRecursion P (rows_wanted models m o rows)
   each_wanted models m None rows a = a
   each_wanted models m (Some s) rows a = each_valued models m (field_place (fields_at models m) s.field) s.value rows a
-
--- supports
-
-pub own_same : (this : Option ℕ) (s : List ℕ) → IsOwn this s → IsOwn this s
-own_same this s h = h
-
-pub own_with : (this : Option ℕ) (old new : List ℕ) (label : ℕ) → ((k : ℕ) → shown_by new k ≡ ((label == k) || shown_by old k)) → is_of this (record_of_label label) ≡ true → IsOwn this old → IsOwn this new
-own_with this old new label more one own = record { each = λ k s. each_if k (label == k) refl (sym (more k) ∙ s) }
-  where
-    each_if : (k : ℕ) (b : Bool) → (label == k) ≡ b → (b || shown_by old k) ≡ true → is_of this (record_of_label k) ≡ true
-    each_if k true e s = ap (λ (n : ℕ). is_of this (record_of_label n)) (sym ((Decides-eqb label k).0 e)) ∙ one
-    each_if k false e s = own.each k s
 
 -- guards
 
@@ -215,17 +172,6 @@ module _ (app : Application) (s : State) (viewer : Option ℕ) (case : IsLocalCa
   pub this_stands : (this : Option ℕ) (v : Value) → v ≡ value.Ref this → stands_own this v s.tables ≡ true
   this_stands None v is = ap (λ u. stands_own None u s.tables) is
   this_stands (Some id) v is = ap (λ u. stands_own (Some id) u s.tables) is ∙ table_own id (model_of_id id)
-
-pub rows_of_table : (this : Option ℕ) (id : ℕ) (rows : List Row) → is_own_table this rows ≡ true → are_own_rows this id rows ≡ true
-rows_of_table this id rows h = all_less (has_own_guard this) (is_own_row this id) (λ r g. or_right (not (r.id == id)) (has_own_guard this r) g) rows h
-
--- in such a table whatever is read is read so
-pub any_read : (this : Option ℕ) (v : Value) (rows : List Row) → is_own_table this rows ≡ true → reads_own this v rows ≡ true
-any_read this (value.Int i) rows h = refl
-any_read this (value.Text t) rows h = refl
-any_read this (value.Bool b) rows h = refl
-any_read this (value.Ref None) rows h = refl
-any_read this (value.Ref (Some id)) rows h = rows_of_table this id rows h
 
 -- what refers to records of free models alone
 
@@ -629,8 +575,3 @@ last_free app bs left env inner ids (j ∷ js) inside behind h =
     and_from (is_free_env app (inner ++ first_bound left v)) (list_all (λ j. is_free_env app (inner ++ first_bound left (value.Ref (Some j)))) js)
     (ap (is_free_env app) (ap (λ es. es ++ first_bound left v) inside ∙ ap (λ l. bound bs ids env ++ first_bound l v) behind ∙ bound-longer bs ids j env) ∙ a.0)
     (last_free app bs left env inner ids js inside behind a.1)
-
--- what follows of a value, if there is one
-pub if_ok : {T E : Type 0} → (r : Result T E) (P Q : T → Type 0) → ((x : T) → P x → Q x) → IfOk r P → IfOk r Q
-if_ok (Ok x) P Q f h = f x h
-if_ok (Err e) P Q f h = tt

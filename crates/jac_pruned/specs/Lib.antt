@@ -1,14 +1,5 @@
-pub mod Alike
 pub mod Begun
-pub mod Buffers
-pub mod Columns
-pub mod Comparisons
-pub mod Consulted
-pub mod Local
+pub mod Locally
 pub mod OneSorted
-pub mod Own
-pub mod Places
-pub mod Runs
-pub mod Seen
 pub mod Tupled
 pub mod Wanted

@@ -5,7 +5,7 @@ use Rattle.jac_rows.specs.declared.row.Row.{Row}
 use Rattle.jac_rows.specs.declared.state.State.{State}
 use Rattle.jac_plain.specs.Policies.{IsLiveLabel, ShowsForbidden, IsSettled}
 use Rattle.jac_plain.specs.Shown.{worlds_of}
-use Rattle.jac_pruned.specs.Local.{IsLocalCase}
+use Rattle.jac_shown_rows.specs.Local.{IsLocalCase}
 use Rattle.jac_resolve.specs.Rounds.{AreFewEvaluations}
 
 module _ (app : Application) (s : State) (number : ℕ) (viewer : Option ℕ) where

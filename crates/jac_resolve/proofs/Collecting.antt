@@ -25,7 +25,7 @@ use Rattle.jac_plain.specs.Requests.{Worlds}
 use Rattle.jac_resolve.specs.Rounds.{HasSoundTables, AreLive}
 use Rattle.jac_resolve.specs.Collected.{labels_of_rows, labels_before, AreSeen, CanBeSeen, CanHold, Collects, has_row, AllCanHold}
 use Rattle.jac_lang.proofs.Places.{length-entities}
-use Rattle.jac_pruned.proofs.Rows.{rows_of-project}
+use Rattle.jac_shown_rows.proofs.Rows.{rows_of-project}
 use Rattle.jac_policy_cache.proofs.Rising.{bool_eq}
 use Rattle.jac_resolve.proofs.Standing.{any_stands, model_there}
 use Rattle.jac_plain.specs.Shown.{worlds_of}

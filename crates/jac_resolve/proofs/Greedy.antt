@@ -7,7 +7,7 @@ use Rattle.jac_world.specs.World.{shown_by, IsAscending}
 use Rattle.jac_lang.specs.Syntax.{Application}
 use Rattle.jac_plain.specs.Requests.{Worlds}
 use Rattle.jac_plain.specs.Policies.{with_label, IsSettled}
-use Rattle.jac_pruned.proofs.Working.{next}
+use Rattle.jac_shown_rows.proofs.Working.{next}
 use Rattle.jac_policy_cache.specs.declared.policy_memo.PolicyMemo.{PolicyMemo}
 use Rattle.jac_resolve.specs.RightMemo.{Fills, Grown, IsPassed, IsUnderway, Retains, RemembersForbidden, Tries}
 use Rattle.jac_resolve.specs.Rounds.{hidden_count, AreLive, MayAdd, Advances, Within}

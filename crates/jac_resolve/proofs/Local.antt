@@ -6,9 +6,9 @@ use Rattle.jac_value.specs.Ids.{model_of_id, record_of_label, group_of_label}
 use Rattle.jac_world.specs.World.{shown_by}
 use Rattle.jac_lang.specs.Lookup.{groups_in}
 use Rattle.jac_lang.specs.Syntax.{FieldGroup, Entity, Application}
-use Rattle.jac_pruned.specs.Local.{are_local_groups, are_local_models, is_free_viewer, is_local, is_local_app}
+use Rattle.jac_shown_rows.specs.Local.{are_local_groups, are_local_models, is_free_viewer, is_local, is_local_app}
 use Rattle.jac_plain.specs.Policies.{labelled_group}
-use Rattle.jac_pruned.specs.Own.{IsOwn}
+use Rattle.jac_shown_rows.specs.Own.{IsOwn}
 
 module _ (models : List Entity) (v : Bool) where
   abbrev has_local : Option FieldGroup → Bool

@@ -10,7 +10,7 @@ use Rattle.jac_lang.specs.Syntax.{Application}
 use Rattle.jac_rows.specs.declared.state.State.{State}
 use Rattle.jac_plain.specs.Requests.{Worlds}
 use Rattle.jac_plain.specs.Shown.{worlds_of}
-use Rattle.jac_pruned.specs.Local.{IsLocalCase}
+use Rattle.jac_shown_rows.specs.Local.{IsLocalCase}
 use Rattle.jac_resolve.specs.Rounds.{AreFewEvaluations, AreLive}
 use Rattle.jac_policy_cache.proofs.Rising.{bool_eq}
 use Rattle.jac_policy_cache.specs.declared.policy_memo.PolicyMemo.{PolicyMemo}

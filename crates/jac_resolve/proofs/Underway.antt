@@ -9,7 +9,7 @@ use Rattle.jac_world.proofs.Contradict.{and_true, by_names, left_true, same_sign
 use Rattle.jac_lang.specs.Syntax.{Application}
 use Rattle.jac_plain.specs.Requests.{Worlds}
 use Rattle.jac_plain.specs.Policies.{is_allowed, with_label}
-use Rattle.jac_pruned.specs.Consulted.{Agrees}
+use Rattle.jac_shown_rows.specs.Consulted.{Agrees}
 use Rattle.jac_policy_cache.specs.declared.policy_memo.PolicyMemo.{PolicyMemo}
 use Rattle.jac_policy_cache.specs.declared.policy_memo.MemoEntry.{MemoEntry}
 use Rattle.jac_policy_cache.specs.Memo.{AreWatched, known_at, or_known, recall, signed_labels, watches}

@@ -8,7 +8,7 @@ use Rattle.jac_rows.specs.declared.state.State.{State}
 use Rattle.jac_rows.specs.Good.{IsSound}
 use Rattle.jac_plain.specs.Policies.{with_label, IsLiveLabel}
 use Rattle.jac_plain.specs.Shown.{worlds_of}
-use Rattle.jac_pruned.specs.Local.{IsLocalCase}
+use Rattle.jac_shown_rows.specs.Local.{IsLocalCase}
 
 -- the tables are those of a sound state: of the state itself, or once a later number is set
 pub record HasSoundTables (s : State) : Type 0 where

@@ -4,7 +4,7 @@ ghost use Rattle.jac_world.specs.World.{shown_by, holds, names};
 ghost use Rattle.jac_value.specs.Ids.{record_of_label};
 ghost use Rattle.jac_lang.specs.Mirror.{application_of};
 ghost use Rattle.jac_keep.specs.WorkState.{state_of, IsTold, ReadsWork};
-ghost use Rattle.jac_pruned.specs.Local.{IsLocalCase};
+ghost use Rattle.jac_shown_rows.specs.Local.{IsLocalCase};
 ghost use Rattle.jac_plain.specs.Policies.{IsSettled, is_allowed};
 ghost use Rattle.jac_policy_cache.specs.Memo.{recall};
 ghost use Rattle.jac_resolve.specs.RightMemo.{AreRight, Fills, Fitting, Grown, IsPassed, IsRight, IsUnderway, Retains, Stays, Tries, is_affected};

@@ -6,13 +6,13 @@ ghost use Rattle.jac_value.specs.Ids.{record_of_label};
 ghost use Rattle.jac_world.specs.World.{shown_by, holds, names};
 ghost use Rattle.jac_lang.specs.Syntax.{Application};
 ghost use Rattle.jac_plain.specs.Requests.{Worlds};
-ghost use Rattle.jac_pruned.specs.Consulted.{Grows};
+ghost use Rattle.jac_shown_rows.specs.Consulted.{Grows};
 ghost use Rattle.jac_policy_cache.specs.Memo.{recall, watched_in, watches};
 ghost use Rattle.jac_resolve.specs.Room.{AreLocalAnswers};
 ghost use Rattle.jac_resolve.specs.RightMemo.{AreRight, Grown, IsRight};
 
 use jac_policy_cache::{Labels, MemoEntry, PolicyMemo};
-use jac_pruned::Support;
+use jac_shown_rows::Support;
 use jac_value::Memory;
 use jac_world::Label;
 use std::alloc::Global;

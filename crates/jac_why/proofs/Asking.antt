@@ -7,8 +7,8 @@ use Rattle.jac_world.specs.World.{shown_by, IsAscending}
 use Rattle.jac_lang.specs.Syntax.{Application}
 use Rattle.jac_rows.specs.declared.plain.PlainState.{PlainState}
 use Rattle.jac_plain.specs.Policies.{is_allowed, with_label, AreAllowed}
-use Rattle.jac_pruned.specs.Consulted.{Agrees}
-use Rattle.jac_pruned.proofs.Growing.{agrees_same}
+use Rattle.jac_shown_rows.specs.Consulted.{Agrees}
+use Rattle.jac_shown_rows.proofs.Growing.{agrees_same}
 use Rattle.jac_why.specs.declared.watch.Watchers.{Watchers}
 use Rattle.jac_why.specs.Named.{as_reason}
 use Rattle.jac_why.specs.Watched.{asks_again, IsUnmoved, IsWatching, AreWatching}

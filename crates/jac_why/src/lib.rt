@@ -1,5 +1,5 @@
 //! Why a label stays hidden from a viewer: a label that isn't allowed once it is shown too.
-#![tactic(auto, using(jac_pruned::proofs::Growing::agrees_same))]
+#![tactic(auto, using(jac_shown_rows::proofs::Growing::agrees_same))]
 
 mod hidden;
 mod laws;

@@ -2,7 +2,7 @@ use Rattle.std.proofs.Common.{◌≡◌, ◌+◌, ◌≤◌, true, drop, length,
 use Rattle.jac_lang.specs.Mirror.{application_of}
 use Rattle.jac_rows.specs.declared.state.State.{State}
 use Rattle.jac_keep.specs.WorkState.{state_of}
-use Rattle.jac_pruned.proofs.Working.{next}
+use Rattle.jac_shown_rows.proofs.Working.{next}
 use Rattle.jac_why.specs.Context.{context_on}
 use Rattle.jac_why.specs.Whys.{is_standing}
 use Rattle.jac_admin.proofs.ExplainLemmas.{lines_end, lines_on, standing_parts, none_behind}

@@ -3,8 +3,8 @@ use Rattle.jac_world.specs.World.{IsAscending}
 use Rattle.jac_lang.specs.Mirror.{application_of}
 use Rattle.jac_rows.specs.declared.state.State.{State}
 use Rattle.jac_keep.specs.WorkState.{state_of}
-use Rattle.jac_pruned.specs.Consulted.{Grows}
-use Rattle.jac_pruned.proofs.Growing.{grows_then}
+use Rattle.jac_shown_rows.specs.Consulted.{Grows}
+use Rattle.jac_shown_rows.proofs.Growing.{grows_then}
 use Rattle.jac_resolve.specs.RightMemo.{IsPassed}
 use Rattle.jac_resolve.specs.Live.{AreLiveOf}
 use Rattle.jac_lazy.specs.Steady.{IsSteady}

@@ -1,7 +1,7 @@
 use Rattle.std.proofs.Common.{[], ◌≤◌, ◌-◌, ◌^◌, length}
 use Rattle.jac_lang.specs.Mirror.{application_of}
 use Rattle.jac_keep.specs.WorkState.{state_of}
-use Rattle.jac_pruned.proofs.Working.{LoopOver}
+use Rattle.jac_shown_rows.proofs.Working.{LoopOver}
 use Rattle.jac_resolve.specs.RightMemo.{IsUnderway}
 use Rattle.jac_lazy.proofs.page.page_lazily.Given as goal
 use Rattle.jac_plain.specs.Shown.{worlds_of}

@@ -5,10 +5,10 @@ use Rattle.jac_value.specs.declared.value.Value.TheVariants as value
 use Rattle.jac_rows.specs.declared.state.State.{State}
 use Rattle.jac_keep.specs.WorkState.{state_of}
 use Rattle.jac_plain.specs.World.{got}
-use Rattle.jac_pruned.specs.Seen.{seen_at}
-use Rattle.jac_pruned.proofs.Growing.{agrees_less, grows_then}
+use Rattle.jac_shown_rows.specs.Seen.{seen_at}
+use Rattle.jac_shown_rows.proofs.Growing.{agrees_less, grows_then}
 use Rattle.jac_pruned.proofs.Once.{each_more, each_all}
-use Rattle.jac_pruned.proofs.Working.{next}
+use Rattle.jac_shown_rows.proofs.Working.{next}
 use Rattle.jac_pruned.proofs.one_sorted.keyed_ids.Goals as goal
 
 pub ids-preserved : goal.ids-preserved

@@ -4,10 +4,10 @@ use Rattle.jac_value.specs.declared.value.Value.TheVariants as value
 use Rattle.jac_world.specs.World.{shown_by}
 use Rattle.jac_keep.specs.WorkState.{state_of}
 use Rattle.jac_plain.specs.World.{got}
-use Rattle.jac_pruned.specs.Consulted.{Agrees, Grows}
+use Rattle.jac_shown_rows.specs.Consulted.{Agrees, Grows}
 use Rattle.jac_pruned.specs.OneSorted.{keyed_each}
-use Rattle.jac_pruned.specs.Seen.{seen_at}
-use Rattle.jac_pruned.proofs.Working.{LoopOver}
+use Rattle.jac_shown_rows.specs.Seen.{seen_at}
+use Rattle.jac_shown_rows.proofs.Working.{LoopOver}
 use Rattle.jac_pruned.proofs.one_sorted.keyed_ids.Given as goal
 
 -- the keyed ids so far, before those that are left, are all

@@ -4,8 +4,8 @@ use Rattle.jac_value.specs.declared.value.Value.TheVariants as value
 use Rattle.jac_keep.specs.WorkState.{state_of}
 use Rattle.jac_plain.specs.Expressions.{key_of}
 use Rattle.jac_plain.specs.World.{got}
-use Rattle.jac_pruned.specs.Seen.{seen_at}
-use Rattle.jac_pruned.specs.Tupled.{lengthened_tuples}
+use Rattle.jac_shown_rows.specs.Seen.{seen_at}
+use Rattle.jac_shown_rows.specs.RecordIds.{lengthened_tuples}
 use Rattle.jac_pruned.proofs.Once.{ids_sorted, own_key}
 use Rattle.jac_pruned.proofs.one_sorted.sort_by_field.Goals as goal
 

@@ -1,9 +1,9 @@
 use Rattle.std.proofs.Common.{◌∙◌, ap}
 use Rattle.jac_keep.specs.WorkState.{state_of}
 use Rattle.jac_plain.specs.World.{got}
-use Rattle.jac_pruned.specs.Seen.{app_at, seen_at}
-use Rattle.jac_pruned.specs.Own.{table_named}
-use Rattle.jac_pruned.proofs.Owning.{any_read}
+use Rattle.jac_shown_rows.specs.Seen.{app_at, seen_at}
+use Rattle.jac_shown_rows.specs.Own.{table_named}
+use Rattle.jac_shown_rows.proofs.OwnRows.{any_read}
 use Rattle.jac_pruned.proofs.order.key_at.Goals as goal
 
 pub returns-clause-key : goal.returns-clause-key

@@ -2,7 +2,7 @@ use Rattle.std.proofs.Common.{◌∙◌, ap, map}
 use Rattle.jac_lang.specs.Mirror.{binders_of}
 use Rattle.jac_keep.specs.WorkState.{state_of}
 use Rattle.jac_plain.specs.Expressions.{key_of}
-use Rattle.jac_pruned.specs.Seen.{seen_at}
+use Rattle.jac_shown_rows.specs.Seen.{seen_at}
 use Rattle.jac_pruned.proofs.Keyed.{sorted-is}
 use Rattle.jac_pruned.proofs.order.sort_by.Goals as goal
 

@@ -4,12 +4,12 @@ use Rattle.jac_lang.specs.Mirror.{binders_of}
 use Rattle.jac_keep.specs.WorkState.{state_of}
 use Rattle.jac_plain.specs.Expressions.{bound, look, key_of}
 use Rattle.jac_plain.specs.World.{got}
-use Rattle.jac_pruned.specs.Seen.{app_at, seen_at}
-use Rattle.jac_pruned.proofs.Growing.{agrees_less, grows_then}
+use Rattle.jac_shown_rows.specs.Seen.{app_at, seen_at}
+use Rattle.jac_shown_rows.proofs.Growing.{agrees_less, grows_then}
 use Rattle.jac_pruned.proofs.Keyed.{keyed-more, keyed-all}
-use Rattle.jac_pruned.proofs.Working.{next}
+use Rattle.jac_shown_rows.proofs.Working.{next}
 use Rattle.jac_rows.specs.declared.state.State.{State}
-use Rattle.jac_pruned.specs.Own.{is_own_table, table_named}
+use Rattle.jac_shown_rows.specs.Own.{is_own_table, table_named}
 use Rattle.jac_pruned.proofs.order.with_keys.Goals as goal
 
 pub tuples-preserved : goal.tuples-preserved

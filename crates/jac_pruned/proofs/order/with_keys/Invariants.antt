@@ -4,11 +4,11 @@ use Rattle.jac_lang.specs.Mirror.{binders_of}
 use Rattle.jac_world.specs.World.{shown_by}
 use Rattle.jac_keep.specs.WorkState.{state_of, IsTold}
 use Rattle.jac_plain.specs.Expressions.{key_of, model_of_binder}
-use Rattle.jac_pruned.specs.Consulted.{Agrees, Grows}
-use Rattle.jac_pruned.specs.Own.{IsOwn, is_own_table, table_named}
-use Rattle.jac_pruned.specs.Seen.{app_at, seen_at}
+use Rattle.jac_shown_rows.specs.Consulted.{Agrees, Grows}
+use Rattle.jac_shown_rows.specs.Own.{IsOwn, is_own_table, table_named}
+use Rattle.jac_shown_rows.specs.Seen.{app_at, seen_at}
 use Rattle.jac_pruned.specs.Tupled.{keyed_by}
-use Rattle.jac_pruned.proofs.Working.{LoopOver}
+use Rattle.jac_shown_rows.proofs.Working.{LoopOver}
 use Rattle.jac_pruned.proofs.order.with_keys.Given as goal
 
 -- the keyed tuples so far, before those that are left, are all

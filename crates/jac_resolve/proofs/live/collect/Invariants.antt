@@ -1,7 +1,7 @@
 use Rattle.jac_lang.specs.Mirror.{entities_of}
 use Rattle.jac_keep.specs.WorkState.{state_of}
 use Rattle.jac_resolve.specs.Collected.{Collects}
-use Rattle.jac_pruned.proofs.Working.{LoopOver}
+use Rattle.jac_shown_rows.proofs.Working.{LoopOver}
 use Rattle.jac_resolve.proofs.live.collect.Given as goal
 
 abbrev pub invariant-models : goal.invariant-models

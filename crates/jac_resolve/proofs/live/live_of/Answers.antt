@@ -3,7 +3,7 @@ use Rattle.jac_lang.specs.Mirror.{application_of}
 use Rattle.jac_rows.specs.declared.state.State.{State}
 use Rattle.jac_keep.specs.WorkState.{state_of}
 use Rattle.jac_plain.specs.Policies.{IsLiveLabel}
-use Rattle.jac_pruned.proofs.Working.{next}
+use Rattle.jac_shown_rows.proofs.Working.{next}
 use Rattle.jac_resolve.proofs.Greedy.{first_is_shown, none_left}
 use Rattle.jac_resolve.proofs.Living.{live_on, live_all}
 use Rattle.jac_resolve.proofs.live.live_of.Goals as goal

@@ -1,7 +1,7 @@
 use Rattle.std.proofs.Common.{drop}
 use Rattle.jac_lang.specs.Mirror.{application_of}
 use Rattle.jac_keep.specs.WorkState.{state_of}
-use Rattle.jac_pruned.proofs.Working.{LoopOver}
+use Rattle.jac_shown_rows.proofs.Working.{LoopOver}
 use Rattle.jac_resolve.proofs.Living.{AreLiveBut}
 use Rattle.jac_resolve.proofs.live.live_of.Given as goal
 use Rattle.jac_plain.specs.Shown.{worlds_of}

@@ -4,7 +4,7 @@ use Rattle.jac_lang.specs.Mirror.{application_of}
 use Rattle.jac_rows.specs.declared.state.State.{State}
 use Rattle.jac_keep.specs.WorkState.{state_of}
 use Rattle.jac_resolve.specs.RightMemo.{AreRight, Fitting, Stays}
-use Rattle.jac_pruned.specs.Local.{IsLocalCase}
+use Rattle.jac_shown_rows.specs.Local.{IsLocalCase}
 use Rattle.jac_resolve.proofs.Room.{most_then, spends_then}
 use Rattle.jac_resolve.proofs.Underway.{fits_both, stays_both}
 use Rattle.jac_resolve.proofs.pass.may_stay.Goals as goal

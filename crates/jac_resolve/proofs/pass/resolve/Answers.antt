@@ -3,7 +3,7 @@ use Rattle.jac_world.specs.World.{IsAscending}
 use Rattle.jac_lang.specs.Mirror.{application_of}
 use Rattle.jac_rows.specs.declared.state.State.{State}
 use Rattle.jac_keep.specs.WorkState.{state_of}
-use Rattle.jac_pruned.specs.Local.{IsLocalCase}
+use Rattle.jac_shown_rows.specs.Local.{IsLocalCase}
 use Rattle.jac_resolve.specs.Rounds.{AreLive}
 use Rattle.jac_resolve.proofs.Room.{live_asked, none_asked}
 use Rattle.jac_resolve.proofs.pass.resolve.Goals as goal

@@ -3,9 +3,9 @@ use Rattle.jac_world.specs.World.{shown_by}
 use Rattle.jac_lang.specs.Mirror.{application_of}
 use Rattle.jac_keep.specs.WorkState.{state_of}
 use Rattle.jac_resolve.specs.RightMemo.{IsUnderway}
-use Rattle.jac_pruned.specs.Local.{IsLocalCase}
+use Rattle.jac_shown_rows.specs.Local.{IsLocalCase}
 use Rattle.jac_resolve.specs.Rounds.{Within, hidden_count}
-use Rattle.jac_pruned.proofs.Working.{LoopOver}
+use Rattle.jac_shown_rows.proofs.Working.{LoopOver}
 use Rattle.jac_resolve.specs.Room.{AreLocalAnswers, Spends}
 use Rattle.jac_resolve.proofs.Room.{AsBounded}
 use Rattle.jac_resolve.proofs.pass.settle_among.Given as goal

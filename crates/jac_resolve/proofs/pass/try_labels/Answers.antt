@@ -4,8 +4,8 @@ use Rattle.jac_lang.specs.Mirror.{application_of}
 use Rattle.jac_rows.specs.declared.state.State.{State}
 use Rattle.jac_keep.specs.WorkState.{state_of}
 use Rattle.jac_resolve.specs.RightMemo.{IsUnderway, Tries}
-use Rattle.jac_pruned.specs.Local.{IsLocalCase}
-use Rattle.jac_pruned.proofs.Working.{next}
+use Rattle.jac_shown_rows.specs.Local.{IsLocalCase}
+use Rattle.jac_shown_rows.proofs.Working.{next}
 use Rattle.jac_resolve.proofs.Room.{most_then, spends_most, spends_then}
 use Rattle.jac_resolve.proofs.Greedy.{first_is_shown, advances, filled, retains_on, none_left, stays_within, round_on}
 use Rattle.jac_resolve.proofs.pass.try_labels.Goals as goal

@@ -6,8 +6,8 @@ use Rattle.jac_keep.specs.WorkState.{state_of}
 use Rattle.jac_plain.specs.Policies.{is_allowed}
 use Rattle.jac_policy_cache.specs.Memo.{recall}
 use Rattle.jac_resolve.specs.RightMemo.{AreRight, Fitting, Stays}
-use Rattle.jac_pruned.specs.Local.{IsLocalCase}
-use Rattle.jac_pruned.proofs.Working.{next}
+use Rattle.jac_shown_rows.specs.Local.{IsLocalCase}
+use Rattle.jac_shown_rows.proofs.Working.{next}
 use Rattle.jac_resolve.proofs.Greedy.{first_is_shown}
 use Rattle.jac_resolve.proofs.Room.{most_then, spends_then}
 use Rattle.jac_resolve.proofs.Underway.{but_next, grown_then, itself}

@@ -4,9 +4,9 @@ use Rattle.jac_lang.specs.Mirror.{application_of}
 use Rattle.jac_keep.specs.WorkState.{state_of}
 use Rattle.jac_plain.specs.Policies.{is_allowed}
 use Rattle.jac_resolve.specs.RightMemo.{AreRight}
-use Rattle.jac_pruned.specs.Local.{IsLocalCase}
+use Rattle.jac_shown_rows.specs.Local.{IsLocalCase}
 use Rattle.jac_resolve.specs.Room.{AreLocalAnswers, Spends}
-use Rattle.jac_pruned.proofs.Working.{LoopOver}
+use Rattle.jac_shown_rows.proofs.Working.{LoopOver}
 use Rattle.jac_resolve.proofs.Greedy.{SoFar}
 use Rattle.jac_resolve.proofs.Underway.{AllBut, InWatching}
 use Rattle.jac_resolve.proofs.Room.{AsBounded}

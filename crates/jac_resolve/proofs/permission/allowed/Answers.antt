@@ -4,9 +4,9 @@ use Rattle.jac_world.specs.World.{shown_by}
 use Rattle.jac_lang.specs.Mirror.{application_of, field_group_of}
 use Rattle.jac_keep.specs.WorkState.{state_of}
 use Rattle.jac_rows.specs.declared.state.State.{State}
-use Rattle.jac_pruned.specs.Local.{IsLocalCase}
-use Rattle.jac_pruned.specs.Own.{IsOwn}
-use Rattle.jac_pruned.proofs.Growing.{agrees_less, agrees_same}
+use Rattle.jac_shown_rows.specs.Local.{IsLocalCase}
+use Rattle.jac_shown_rows.specs.Own.{IsOwn}
+use Rattle.jac_shown_rows.proofs.Growing.{agrees_less, agrees_same}
 use Rattle.jac_pruned.proofs.Owning.{table_own}
 use Rattle.jac_resolve.proofs.Local.{own_label, own_none, policy_local}
 use Rattle.jac_resolve.proofs.permission.allowed.Goals as goal

@@ -1,7 +1,7 @@
 use Rattle.std.proofs.Common.{ap}
 use Rattle.std.proofs.lemmas.Bool.{and_from}
 use Rattle.jac_lang.specs.Mirror.{application_of}
-use Rattle.jac_pruned.specs.Own.{is_free_env}
+use Rattle.jac_pruned.specs.Locally.{is_free_env}
 use Rattle.jac_resolve.proofs.permission.policy_holds.Goals as goal
 
 pub returns-clause-own : goal.returns-clause-own

@@ -1,7 +1,7 @@
 use Rattle.std.proofs.Common.{◌≡◌, ◌||◌, ℕ, true}
 use Rattle.std.specs.BTreeMap.{keys}
 use Rattle.jac_world.specs.World.{shown_by}
-use Rattle.jac_pruned.specs.Consulted.{Grows}
+use Rattle.jac_shown_rows.specs.Consulted.{Grows}
 use Rattle.jac_resolve.proofs.recall.add_watched.Given as goal
 
 -- a label that is watched was added, or is left

@@ -4,7 +4,7 @@ use Rattle.jac_keep.specs.WorkState.{state_of}
 use Rattle.jac_resolve.specs.RightMemo.{IsUnderway}
 use Rattle.jac_resolve.specs.Rounds.{hidden_count}
 use Rattle.jac_resolve.specs.ValidCache.{cache_labels}
-use Rattle.jac_pruned.proofs.Working.{LoopOver}
+use Rattle.jac_shown_rows.proofs.Working.{LoopOver}
 use Rattle.jac_resolve.proofs.Greedy.{InRounds}
 use Rattle.jac_resolve.proofs.settled_cache.fill.Given as goal
 use Rattle.jac_plain.specs.Shown.{worlds_of}

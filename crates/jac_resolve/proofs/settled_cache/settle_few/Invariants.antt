@@ -1,7 +1,7 @@
 use Rattle.std.proofs.Common.{◌≤◌}
 use Rattle.jac_lang.specs.Mirror.{application_of}
 use Rattle.jac_keep.specs.WorkState.{state_of}
-use Rattle.jac_pruned.proofs.Working.{LoopOver}
+use Rattle.jac_shown_rows.proofs.Working.{LoopOver}
 use Rattle.jac_resolve.proofs.Apart.{StandsWidened}
 use Rattle.jac_resolve.proofs.settled_cache.settle_few.Given as goal
 use Rattle.jac_plain.specs.Shown.{worlds_of}

@@ -1,5 +1,5 @@
 use Rattle.jac_world.specs.World.{shown_by}
-use Rattle.jac_pruned.proofs.Growing.{agrees_same}
+use Rattle.jac_shown_rows.proofs.Growing.{agrees_same}
 use Rattle.jac_why.proofs.hidden.ask.Goals as goal
 
 pub returns-clause-answer : goal.returns-clause-answer

@@ -4,7 +4,7 @@ use Rattle.jac_lang.specs.Mirror.{application_of}
 use Rattle.jac_rows.specs.declared.state.State.{State}
 use Rattle.jac_keep.specs.WorkState.{state_of}
 use Rattle.jac_plain.specs.Policies.{is_allowed}
-use Rattle.jac_pruned.proofs.Working.{next}
+use Rattle.jac_shown_rows.proofs.Working.{next}
 use Rattle.jac_resolve.proofs.Greedy.{none_left}
 use Rattle.jac_why.specs.Whys.{first_forbidden}
 use Rattle.jac_why.proofs.Explaining.{first_here, first_none, first_on}

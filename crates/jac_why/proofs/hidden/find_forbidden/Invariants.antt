@@ -2,7 +2,7 @@ use Rattle.std.proofs.Common.{◌≡◌, ◌≤◌, drop}
 use Rattle.jac_world.specs.World.{shown_by}
 use Rattle.jac_lang.specs.Mirror.{application_of}
 use Rattle.jac_keep.specs.WorkState.{state_of}
-use Rattle.jac_pruned.proofs.Working.{LoopOver}
+use Rattle.jac_shown_rows.proofs.Working.{LoopOver}
 use Rattle.jac_why.specs.Whys.{first_forbidden}
 use Rattle.jac_why.proofs.hidden.find_forbidden.Given as goal
 use Rattle.jac_plain.specs.Shown.{worlds_of}

@@ -3,7 +3,7 @@ use Rattle.jac_lang.specs.Mirror.{application_of}
 use Rattle.jac_rows.specs.declared.state.State.{State}
 use Rattle.jac_keep.specs.WorkState.{state_of}
 use Rattle.jac_plain.specs.Policies.{AreAllowed}
-use Rattle.jac_pruned.proofs.Working.{next}
+use Rattle.jac_shown_rows.proofs.Working.{next}
 use Rattle.jac_why.specs.Context.{context_on}
 use Rattle.jac_why.specs.Watched.{AreWatching}
 use Rattle.jac_why.specs.Whys.{why_at, all_whys}

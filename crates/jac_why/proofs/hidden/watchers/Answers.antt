@@ -1,7 +1,7 @@
 use Rattle.std.proofs.Common.{◌+◌, ◌≤◌, drop, length, subst, rules, arith}
 use Rattle.jac_rows.specs.declared.state.State.{State}
 use Rattle.jac_keep.specs.WorkState.{state_of}
-use Rattle.jac_pruned.proofs.Working.{next}
+use Rattle.jac_shown_rows.proofs.Working.{next}
 use Rattle.jac_resolve.proofs.Greedy.{first_is_shown, none_left}
 use Rattle.jac_why.specs.Context.{context_on}
 use Rattle.jac_why.specs.Watched.{IsWatching}

@@ -1,6 +1,6 @@
 use Rattle.std.proofs.Common.{◌≤◌, drop}
 use Rattle.jac_keep.specs.WorkState.{state_of}
-use Rattle.jac_pruned.proofs.Working.{LoopOver}
+use Rattle.jac_shown_rows.proofs.Working.{LoopOver}
 use Rattle.jac_why.specs.Context.{context_on}
 use Rattle.jac_why.specs.Watched.{AreWatching}
 use Rattle.jac_why.proofs.hidden.watchers.Given as goal

@@ -1,7 +1,0 @@
-use Rattle.std.proofs.Common.{◌≡◌, drop}
-use Rattle.jac_value.specs.Html.{html}
-use Rattle.jac_pruned.proofs.value_bytes.are_plain.Given as goal
-
--- if HTML shows those that are left as they are, it shows all so
-abbrev pub invariant-bytes : goal.invariant-bytes
-invariant-bytes l = html (drop l.byte-index l.text) ≡ drop l.byte-index l.text → html l.text ≡ l.text

@@ -1,0 +1,28 @@
+use Rattle.std.proofs.Common.{◌∙◌, ap}
+use Rattle.jac_value.specs.declared.value.Value.{Value}
+use Rattle.jac_value.specs.Values.{value_text}
+use Rattle.jac_lang.specs.Mirror.{expression_of}
+use Rattle.jac_keep.specs.WorkState.{state_of}
+use Rattle.jac_plain.specs.declared.page.Piece.TheVariants as piece
+use Rattle.jac_plain.specs.Expressions.{mean}
+use Rattle.jac_plain.specs.Shown.{setting_at, world_at}
+use Rattle.jac_plain.specs.Statements.{value_in}
+use Rattle.jac_value.specs.Html.{html}
+use Rattle.jac_pruned_pages.specs.Buffers.{buffer_of}
+use Rattle.jac_pruned_pages.specs.Runs.{run_in}
+use Rattle.jac_pruned_pages.proofs.Running.{piece_more, value_here}
+use Rattle.jac_pruned_pages.proofs.run.escape_value.Goals as goal
+
+pub returns-in_ok-add_escaped-in-Some-clause-left : goal.returns-in_ok-add_escaped-in-Some-clause-left
+returns-in_ok-add_escaped-in-Some-clause-left g c told w agree pieces is =
+    let app = c.args.at.now.app.now in
+    let ctx = c.args.at.now.ctx.now in
+    let s = state_of g.K.Keeper.seen c.args.work.now in
+    let world = world_at app ctx s w in
+    let e = expression_of c.args.e.now in
+    let env = c.args.run.now.env.items in
+    let made = λ (v : Value). piece.Added (html (value_text v)) in
+    let v = c.in-Some.value.now in
+    piece_more w s env (buffer_of c.args.run.now.page) (buffer_of c.add_escaped.new.self) pieces
+    (made (value_in (setting_at app ctx w) e (run_in w s env pieces))) (made v) is c.in_ok-add_escaped-in-Some.ensures
+    (ap made (value_here app ctx w s env pieces e v c.requires.no_record (c.in-Some.ensures world ∙ ap (mean world e) c.as_slice.ensures.value)))

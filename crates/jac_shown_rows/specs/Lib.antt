@@ -1,0 +1,9 @@
+pub mod Alike
+pub mod BoundNames
+pub mod Columns
+pub mod Comparisons
+pub mod Consulted
+pub mod Local
+pub mod Own
+pub mod RecordIds
+pub mod Seen
