@@ -1,6 +1,5 @@
-ghost use Rattle.std.specs.Prelude.{◌≡◌, ℕ, Bool, true, [], ◌∷◌, Some, IfOk, IfSome};
+ghost use Rattle.std.specs.Prelude.{◌≡◌, ℕ, Bool, true, [], ◌∷◌, IfOk, IfSome};
 ghost use Rattle.jac_value.specs.declared.value.Value.{Value as Plain};
-ghost use Rattle.jac_value.specs.declared.value.Value.TheVariants.{Bool as Truth};
 ghost use Rattle.jac_world.specs.World.{holds};
 ghost use Rattle.jac_facet.specs.Shape.{at};
 ghost use Rattle.jac_facet.specs.Leaves.{leaves_seen};
@@ -8,7 +7,7 @@ ghost use Rattle.jac_plain.specs.Expressions.{is_true, pick, two};
 
 use jac_facet::Facet;
 use jac_lang::Op;
-use jac_plain::is_true;
+use jac_plain::{decided, is_true};
 use jac_value::{Memory, Value};
 use jac_world::{Guard, Steps};
 use std::alloc::Global;
@@ -44,30 +43,21 @@ pub(crate) fn decided_under(
     pc: &Guard,
     op: Op,
     first: &Facet<Value>,
-) -> Result<Option<bool>, Memory>
-    ensures { IfOk result (λ o. IfSome o (λ t. (w : ℕ → Bool) (other : Plain)
-        → holds w pc.now ≡ true → two op (at w first.now) other ≡ Truth t)) }
+) -> Result<Option<Value>, Memory>
+    ensures { IfOk result (λ o. IfSome o (λ v. (w : ℕ → Bool) (other : Plain)
+        → holds w pc.now ≡ true → two op (at w first.now) other ≡ v)) }
 {
-    match op {
-        Op::And => {
-            let truth = truth_under(alloc, pc, first)?;
-            Ok(if_truth(truth, false))
-        }
-        Op::Or => {
-            let truth = truth_under(alloc, pc, first)?;
-            Ok(if_truth(truth, true))
-        }
-        _ => Ok(None),
-    }
+    let leaves = first.leaves_under(alloc, pc)?;
+    Ok(only_decided(op, leaves.as_slice()))
 }
 
-// This truth, where it is the one that is known.
-fn if_truth(known: Option<bool>, truth: bool) -> Option<bool>
-    ensures { IfSome result (λ t. (t ≡ truth) × (known ≡ Some truth)) }
+fn only_decided(op: Op, leaves: &[(Guard, Value)]) -> Option<Value>
+    ensures { IfSome result (λ v. (w : ℕ → Bool) (x other : Plain)
+        → leaves_seen w leaves.now ≡ x ∷ [] → two op x other ≡ v) }
 {
-    match known {
-        Some(found) => if found == truth { Some(found) } else { None },
-        None => None,
+    match leaves {
+        [leaf] => decided(op, &leaf.1),
+        _ => None,
     }
 }
 

@@ -1,17 +1,16 @@
 //! Operations on faceted values: under each assignment the operation on the values there.
-ghost use Rattle.std.specs.Prelude.{◌≡◌, ℕ, Bool, not, IfOk, ◌++◌, length, map};
+ghost use Rattle.std.specs.Prelude.{◌≡◌, ℕ, Bool, not, IfOk, ◌++◌, map};
 ghost use Rattle.jac_value.specs.declared.value.Value.TheVariants.{Bool as Truth, Text};
 ghost use Rattle.jac_facet.specs.Shape.{at};
 ghost use Rattle.jac_plain.specs.Expressions.{is_true, two, bytes_of};
 ghost use Rattle.jac_value.specs.Values.{value_text};
-ghost use Rattle.jac_world.specs.World.{both, IsMeet};
 ghost use Rattle.jac_expr.specs.Tupled.{all_at, truths};
 
 use jac_facet::{Facet, Facets};
 use jac_lang::Op;
 use jac_plain::{is_true, two_values};
 use jac_value::{Memory, Txt, Value, text_of};
-use jac_world::{Guard, Steps};
+use jac_world::Steps;
 use std::alloc::Global;
 use std::sync::ledger::Ledger;
 
@@ -117,14 +116,4 @@ fn mark_of<L: Ledger>(
     ensures { IfOk result (λ m. (w : ℕ → Bool) → at w m ≡ is_true (at w value.now)) }
 {
     Ok(value.map(alloc, |value| Ok(is_true(value)), splits)?)
-}
-
-/// The guard that holds where both hold, or none where they never do together.
-pub(crate) fn meet(alloc: Global, first: &Guard, second: &Guard) -> Result<Option<Guard>, Memory>
-    ensures { IfOk result (IsMeet first.now second.now) }
-{
-    match first.meet(alloc, second) {
-        Ok(met) => Ok(met),
-        Err(_) => Err(Memory),
-    }
 }

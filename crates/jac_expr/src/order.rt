@@ -1,5 +1,5 @@
 //! Tuples in the order of a field.
-ghost use Rattle.std.specs.Prelude.{◌≡◌, ℕ, Bool, true, List, [], length, IfOk, IsTrue};
+ghost use Rattle.std.specs.Prelude.{◌≡◌, ℕ, Bool, true, [], length, IfOk, IsTrue};
 ghost use Rattle.jac_facet.specs.Shape.{at};
 ghost use Rattle.jac_lang.specs.Mirror.{binders_of};
 ghost use Rattle.jac_keep.specs.WorkState.{state_of, IsTold, ReadsWork};
@@ -7,10 +7,10 @@ ghost use Rattle.jac_world.specs.World.{holds};
 ghost use Rattle.jac_plain.specs.Expressions.{bound, look, key_of, ordered_tuples, sorted_tuples};
 ghost use Rattle.jac_plain.specs.World.{got};
 ghost use Rattle.jac_plain.specs.declared.context.Ctx.{Ctx as Context};
-ghost use Rattle.jac_query.specs.Live.{live, all_ids};
+ghost use Rattle.jac_query.specs.Live.{live};
 ghost use Rattle.jac_query.specs.Marked.{marked_tuples};
 ghost use Rattle.jac_query.specs.Sorted.{value_less};
-ghost use Rattle.jac_expr.specs.Tupled.{each_with};
+ghost use Rattle.jac_expr.specs.Tupled.{each_with, KeepsIds};
 ghost use Rattle.jac_plain.specs.Shown.{world_at};
 
 use crate::Env;
@@ -46,8 +46,7 @@ pub(crate) fn sort<K: Keeper, L: Ledger>(
     ensures sorted { IsTold K.seen work.new → IfOk result (λ ts. (ctx : Context) (w : ℕ → Bool)
         → live w ts ≡ ordered_tuples (world_at app.now ctx (state_of K.seen work.old) w)
         (binders_of binders.now) by.now (live w tuples)) }
-    ensures ids { IfOk result (λ ts. (p : List ℕ → Bool) → all_ids p tuples ≡ true
-        → all_ids p ts ≡ true) }
+    ensures ids { IfOk result (KeepsIds tuples) }
     ensures reads { ReadsWork K.seen work.old work.new result }
 {
     match by {
@@ -85,8 +84,7 @@ fn sort_by<K: Keeper, L: Ledger>(
         → live w ts ≡ sorted_tuples (value_less down)
         (key_of (world_at app.now ctx (state_of K.seen work.old) w) (binders_of key.now.binders.now)
         key.now.name.now key.now.field.now) (live w tuples.now)) }
-    ensures ids { IfOk result (λ ts. (p : List ℕ → Bool) → all_ids p tuples.now ≡ true
-        → all_ids p ts ≡ true) }
+    ensures ids { IfOk result (KeepsIds tuples.now) }
     ensures reads { ReadsWork K.seen work.old work.new result }
 {
     let all = tuples.as_slice();
