@@ -8,16 +8,17 @@ use Rattle.jac_lang.specs.Syntax.{Application, Statements}
 use Rattle.jac_rows.specs.Project.{project_at}
 use Rattle.jac_rows.specs.declared.state.State.{State}
 use Rattle.jac_plain.specs.declared.context.Ctx.{Ctx}
-use Rattle.jac_plain.specs.Requests.{Worlds, body_in, page, page_of}
+use Rattle.jac_plain.specs.Requests.{Visit, Worlds, body_in, page, page_of}
+use Rattle.jac_plain.specs.declared.page.Page.{Page}
 use Rattle.jac_plain.specs.Statements.{leaves_all}
 use Rattle.jac_shown_rows.specs.Consulted.{Grows}
 use Rattle.jac_pruned_pages.specs.Runs.{page_ran, run_in}
-use Rattle.jac_shown_rows.proofs.Growing.{grows_then}
+use Rattle.jac_shown_rows.proofs.Growing.{agrees_less, grows_then}
 use Rattle.jac_policy_cache.specs.declared.policy_memo.PolicyMemo.{PolicyMemo}
 use Rattle.jac_policy_cache.specs.Memo.{watches}
 use Rattle.jac_resolve.specs.RightMemo.{IsPassed}
 use Rattle.jac_resolve.specs.Live.{AreLiveOf}
-use Rattle.jac_lazy.specs.Steady.{IsSteady}
+use Rattle.jac_lazy.specs.Steady.{IsPageOf, IsSteady}
 use Rattle.jac_lazy.proofs.Passing.{passed_steady}
 use Rattle.jac_lazy.proofs.Rising.{grown_longer}
 
@@ -48,3 +49,9 @@ counted_more start end one two rises rises_too grows first second =
 pub fewer_left : (start end : List ℕ) (one two : ℕ) → IsAscending start → IsAscending end → Grows start end → one ≡ length start → two ≡ length end → two < 2 ^ 64 → one < two →
     2 ^ 64 - length end < 2 ^ 64 - length start
 fewer_left start end one two rises rises_too grows first second below more = omega (arith, first, second, below, more)
+
+-- a page stays one as more is consulted
+pub page_later : (app : Application) (before : Worlds) (old new labels : List ℕ) (visit : Visit) (it : Page) → Grows old new → IsPageOf app before old labels visit it → IsPageOf app before new labels visit it
+page_later app before old new labels visit it grows is = record {
+  each = λ w agrees. is.each w (agrees_less (shown_by labels) w old new grows agrees);
+}

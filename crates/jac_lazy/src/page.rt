@@ -1,12 +1,12 @@
 //! The page of a view that writes nothing, and the labels that it consults.
 ghost use Rattle.std.specs.Prelude.{◌≡◌, ◌<◌, ◌≤◌, ◌^◌, ℕ, Bool, true, None, length, slice_get, IfOk, IsTrue};
-ghost use Rattle.jac_world.specs.World.{shown_by, IsAscending};
+ghost use Rattle.jac_world.specs.World.{IsAscending};
 ghost use Rattle.jac_lang.specs.Mirror.{application_of, statements_of};
 ghost use Rattle.jac_keep.specs.WorkState.{state_of, IsTold, ReadsWork};
 ghost use Rattle.jac_plain.specs.Reading.{are_reading};
 ghost use Rattle.jac_plain.specs.Requests.{body_in};
-ghost use Rattle.jac_shown_rows.specs.Consulted.{Agrees, Grows};
-ghost use Rattle.jac_pruned_pages.specs.Runs.{page_ran, IsPageMade};
+ghost use Rattle.jac_shown_rows.specs.Consulted.{Grows};
+ghost use Rattle.jac_pruned_pages.specs.Runs.{IsPageMade};
 ghost use Rattle.jac_lazy.specs.Steady.{IsPageOf, IsSteady};
 ghost use Rattle.jac_plain.specs.Shown.{worlds_of};
 
@@ -19,7 +19,7 @@ use jac_pruned_pages::run_body_at;
 use jac_resolve::{add_consulted, live_of, settle_among};
 use jac_shown_rows::{Support, WorldContext};
 use jac_value::Memory;
-use jac_world::{Assignment, Steps};
+use jac_world::{Assignment, Label, Steps};
 use std::alloc::Global;
 use std::sync::ledger::Ledger;
 
@@ -31,10 +31,27 @@ pub struct LazyPage {
     pub consulted: Assignment,
 }
 
+// A page, and the labels that it was made under.
+#[derive(Drop)]
+struct MadePage {
+    page: Page,
+    shown: Assignment,
+}
+
+// What a page is made from.
+#[derive(Clone, Copy)]
+struct PageSource<'a> {
+    app: &'a App,
+    ctx: &'a Ctx,
+    view: u32,
+    env: &'a PlainEnv,
+}
+
 /// The page of a view that writes nothing, made after only those labels are resolved that the page
-/// and their policies consult. Nothing is consulted at first. The live labels that were consulted
-/// are settled, and the page is run under them; what the policies and the page consult is added,
-/// until nothing is. What a policy answered is remembered from run to run.
+/// and their policies consult. Nothing is consulted at first, and the page is run under no labels.
+/// Then the live labels that were consulted are settled, and the page is run under them, if it
+/// wasn't yet; what the policies and the page consult is added, until nothing is. What a policy
+/// answered is remembered from run to run.
 pub fn page_lazily<K: Keeper, M: Ledger>(
     work: &mut Work<'_, K>,
     app: &App,
@@ -59,10 +76,16 @@ pub fn page_lazily<K: Keeper, M: Ledger>(
     ensures later { evaluations.old ≤ evaluations.new }
     ensures reads { ReadsWork K.seen work.old work.new result }
 {
-    let body = body_at(app, view);
-    let outside = in_no_loop(ctx);
+    let source = PageSource {
+        app,
+        ctx,
+        view,
+        env,
+    };
     let mut consulted = Support::empty(work.alloc);
     let mut answers = PolicyMemo::empty(work.alloc);
+    let nothing = Assignment::empty(work.alloc);
+    let mut made = run_page(work, &source, nothing, &mut consulted)?;
     'runs: loop {
         let before = count_of(&consulted);
         let tried = live_of(work, app, consulted.as_slice())?;
@@ -75,23 +98,104 @@ pub fn page_lazily<K: Keeper, M: Ledger>(
             evaluations,
         )?;
         add_consulted(&answers, &mut consulted)?;
-        let bindings = copied(work.alloc, env)?;
-        let at = WorldContext {
-            app,
-            ctx: &outside,
-            assignment: &shown,
-        };
-        let page = run_body_at(work, &at, body, bindings, &mut consulted)?;
+        let next = page_under(work, &source, made, shown, &mut consulted)?;
         let after = count_of(&consulted);
         if after == before {
             let consulted = assignment_of(work.alloc, &consulted)?;
+            let MadePage { page, shown } = next;
             return Ok(LazyPage {
                 page,
                 shown,
                 consulted,
             });
         }
+        made = next;
     }
+}
+
+// The page under the labels. One that was made under the same labels isn't run again.
+fn page_under<K: Keeper>(
+    work: &mut Work<'_, K>,
+    source: &PageSource<'_>,
+    earlier: MadePage,
+    shown: Assignment,
+    consulted: &mut Support,
+) -> Result<MadePage, Stop>
+    requires attached { IsTrue (K.seen work.old.keeper.now).store.attached }
+    requires there { source.now.view < length source.now.app.now.views }
+    requires reading { are_reading (body_in
+        (slice_get (application_of source.now.app.now).views source.now.view)) ≡ true }
+    requires number { IsTold K.seen work.old → source.now.ctx.now.number
+        ≡ (state_of K.seen work.old).number }
+    requires made { IsPageMade earlier.page }
+    requires earlier { IsTold K.seen work.old → IsPageOf (application_of source.now.app.now)
+        (worlds_of (state_of K.seen work.old)) consulted.old earlier.shown
+        (record {
+          view = source.now.view;
+          env = source.now.env.now;
+          viewer = source.now.ctx.now.viewer;
+        }) earlier.page }
+    ensures page { IsTold K.seen work.new → IfOk result (λ it. IsPageOf
+        (application_of source.now.app.now) (worlds_of (state_of K.seen work.old)) consulted.new
+        it.shown (record {
+          view = source.now.view;
+          env = source.now.env.now;
+          viewer = source.now.ctx.now.viewer;
+        }) it.page) }
+    ensures shown { IfOk result (λ it. it.shown ≡ shown) }
+    ensures ascending { IfOk result (λ it. IsAscending it.shown) }
+    ensures made { IfOk result (λ it. IsPageMade it.page) }
+    ensures grows { Grows consulted.old consulted.new }
+    ensures reads { ReadsWork K.seen work.old work.new result }
+{
+    if are_same(earlier.shown.as_slice(), shown.as_slice()) {
+        return Ok(earlier);
+    }
+    let made = run_page(work, source, shown, consulted)?;
+    Ok(made)
+}
+
+// The page under the labels, run.
+fn run_page<K: Keeper>(
+    work: &mut Work<'_, K>,
+    source: &PageSource<'_>,
+    shown: Assignment,
+    consulted: &mut Support,
+) -> Result<MadePage, Stop>
+    requires attached { IsTrue (K.seen work.old.keeper.now).store.attached }
+    requires there { source.now.view < length source.now.app.now.views }
+    requires reading { are_reading (body_in
+        (slice_get (application_of source.now.app.now).views source.now.view)) ≡ true }
+    requires number { IsTold K.seen work.old → source.now.ctx.now.number
+        ≡ (state_of K.seen work.old).number }
+    ensures page { IsTold K.seen work.new → IfOk result (λ it. IsPageOf
+        (application_of source.now.app.now) (worlds_of (state_of K.seen work.old)) consulted.new
+        it.shown (record {
+          view = source.now.view;
+          env = source.now.env.now;
+          viewer = source.now.ctx.now.viewer;
+        }) it.page) }
+    ensures shown { IfOk result (λ it. it.shown ≡ shown) }
+    ensures made { IfOk result (λ it. IsPageMade it.page) }
+    ensures grows { Grows consulted.old consulted.new }
+    ensures reads { ReadsWork K.seen work.old work.new result }
+{
+    let body = body_at(source.app, source.view);
+    let outside = in_no_loop(source.ctx);
+    let bindings = copied(work.alloc, source.env)?;
+    let at = WorldContext {
+        app: source.app,
+        ctx: &outside,
+        assignment: &shown,
+    };
+    let page = run_body_at(work, &at, body, bindings, consulted)?;
+    Ok(MadePage { page, shown })
+}
+
+fn are_same(one: &[Label], other: &[Label]) -> bool
+    ensures { result ≡ true → one.now ≡ other.now }
+{
+    one == other
 }
 
 // How many labels were consulted.
