@@ -54,4 +54,6 @@ written_on old mid new a b = record {
   given = b.given ∙ a.given;
   input = λ inputs. b.input inputs ∙ a.input inputs;
   brings = λ input. b.brings input ∙ a.brings input;
+  none = b.none ∙ a.none;
+  ends = b.ends ∙ a.ends;
 }

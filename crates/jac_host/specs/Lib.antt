@@ -6,3 +6,4 @@ pub mod Gave
 pub mod Links
 pub mod Wrote
 pub mod Held
+pub mod HandedLinks

@@ -1,7 +1,7 @@
 -- what connections and their door tell, by what the system gave and took
-use Rattle.std.specs.Prelude.{ℕ, ◌+◌, Bool, true, ◌&&◌, List, [], ◌∷◌, Option, Some, None, length, drop, map, nat_le, zero, suc}
+use Rattle.std.specs.Prelude.{ℕ, ◌+◌, ◌==◌, Bool, true, false, not, ◌&&◌, ◌||◌, List, [], ◌∷◌, Option, Some, None, length, drop, map, nat_le, zero, suc}
 use Rattle.jac_io.specs.Linked.{LinkSeen, DoorSeen}
-use Rattle.jac_host.specs.Events.{Event, Gave, Listens, Came}
+use Rattle.jac_host.specs.Events.{Event, Opened, Gave, Listens, Came}
 use Rattle.jac_host.specs.Gave.{bytes_given, goes_on}
 use Rattle.jac_host.specs.Sinks.{took}
 
@@ -35,6 +35,22 @@ brings input [] = true
 brings input (Came ∷ events) = true
 brings input (Gave bytes ∷ events) = goes_on input (bytes_given events) bytes && brings input events
 brings input (_ ∷ events) = brings input events
+
+-- whether a read gave nothing since the connection came: its input ended, or none came in time
+abbrev pub gave_none : List Event → Bool
+gave_none [] = false
+gave_none (Came ∷ events) = false
+gave_none (Gave bytes ∷ events) = length bytes == 0 || gave_none events
+gave_none (_ ∷ events) = gave_none events
+
+-- whether since then no read gave bytes after one that gave nothing, and no file was opened
+abbrev pub ends_for_good : List Event → Bool
+ends_for_good [] = true
+ends_for_good (Came ∷ events) = true
+ends_for_good (Opened name ∷ events) = false
+ends_for_good (Gave bytes ∷ events) =
+    (length bytes == 0 || not (gave_none events)) && ends_for_good events
+ends_for_good (_ ∷ events) = ends_for_good events
 
 -- a connection, where this is supposed of all of them. It tells as long as each read agreed
 abbrev pub link_seen : List (List ℕ) → List Event → ℕ → LinkSeen

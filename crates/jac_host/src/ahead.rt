@@ -1,5 +1,5 @@
 //! What is read of a connection before it is handed out, and its input as its link takes it.
-ghost use Rattle.std.specs.Prelude.{◌≡◌, ◌≤◌, false, [], ◌++◌, length, take, IfOk, MatchResult};
+ghost use Rattle.std.specs.Prelude.{◌≡◌, ◌≤◌, ◌<◌, false, [], ◌++◌, length, take, IfOk, MatchResult};
 ghost use Rattle.jac_host.specs.Held.{Held};
 
 use crate::calls::read_once;
@@ -130,6 +130,7 @@ impl Input {
 
     /// Reads once.
     pub(crate) fn read(&mut self, stream: &mut TcpStream, into: &mut [u8]) -> io::Result<usize>
+        requires room { 0 < length into.old }
         ensures within { IfOk result (λ count. count ≤ length into.new) }
         ensures same_length { length into.new ≡ length into.old }
         ensures rest { self.new.rest ≡ self.old.rest }

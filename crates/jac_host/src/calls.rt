@@ -1,6 +1,6 @@
 //! The calls of the system, one a function, each noted with what it answered. That a file is asked
 //! for is noted before. Nothing else notes.
-ghost use Rattle.std.specs.Prelude.{◌≡◌, ◌≤◌, [], ◌∷◌, Some, None, length, take, IfOk, OnOk, OnErr, MatchResult};
+ghost use Rattle.std.specs.Prelude.{◌≡◌, ◌≤◌, ◌<◌, [], ◌∷◌, Some, None, length, take, IfOk, OnOk, OnErr, MatchResult};
 ghost use Rattle.jac_host.specs.Events.{Asks, Opened, Gave, Took, Aimed, Listens, Came};
 
 use crate::inherited::inherited;
@@ -9,7 +9,7 @@ use crate::room::Room;
 use std::fs::File;
 use std::io;
 use std::io::{ErrorKind, Read, Write};
-use std::net::{SocketAddr, TcpListener};
+use std::net::{Ipv4Addr, SocketAddr, TcpListener};
 
 /// Asks for a file, and opens it.
 pub(crate) fn open_file(rt: &HostRuntime, journal: &mut Journal, name: &str) -> io::Result<File>
@@ -41,12 +41,13 @@ pub(crate) fn aim_nowhere(journal: &mut Journal)
     *journal = journal.then(&Note::Aimed(None));
 }
 
-/// Reads once.
+/// Reads once. A read that has room and gives no bytes is at the end.
 pub(crate) fn read_once<R: Read>(
     from: &mut R,
     journal: &mut Journal,
     into: &mut [u8],
 ) -> io::Result<usize>
+    requires room { 0 < length into.old }
     ensures within { IfOk result (λ count. count ≤ length into.new) }
     ensures same_length { length into.new ≡ length into.old }
     ensures noted { MatchResult result
@@ -95,20 +96,21 @@ pub(crate) fn drop_bytes(journal: &mut Journal, bytes: &[u8])
     *journal = journal.then(&Note::Took(bytes));
 }
 
-/// Listens on this port, or goes on listening where the port was handed in.
-pub(crate) fn listen(
-    rt: &HostRuntime,
-    journal: &mut Journal,
-    address: SocketAddr,
-    port: u16,
-) -> io::Result<Room>
+/// Listens on this port of the machine itself, where no other machine reaches it. If a listening
+/// socket was handed in, that one is used, and has to have this address.
+pub(crate) fn listen(rt: &HostRuntime, journal: &mut Journal, port: u16) -> io::Result<Room>
     ensures { MatchResult result
         (λ _. journal.new.events ≡ Listens port ∷ journal.old.events)
         (λ _. journal.new.events ≡ journal.old.events) }
 {
-    let room = Room::open(rt, listener_of(rt, address)?)?;
+    let room = Room::open(rt, listener_of(rt, local_address(port))?)?;
     *journal = journal.then(&Note::Listens(port));
     Ok(room)
+}
+
+/// The loopback address with this port.
+pub(crate) fn local_address(port: u16) -> SocketAddr {
+    SocketAddr::from((Ipv4Addr::LOCALHOST, port))
 }
 
 // The listener that was handed in, which has to listen at this address, or a new one, whose queue

@@ -1,11 +1,13 @@
 ghost use Rattle.std.specs.Prelude.{◌≡◌, ◌≤◌, [], None};
+ghost use Rattle.jac_host.specs.HandedLinks.{AreEnded};
 
 use crate::ahead::Ahead;
-use crate::calls::listen;
+use crate::calls::{listen, local_address};
 use crate::faults::counted;
 use crate::handed::Handed;
+use crate::handed_link::HandedLink;
 use crate::journal::Journal;
-use crate::link::{HostLink, link_of, read_away};
+use crate::link::{HostLink, let_go, link_of};
 use crate::outside::Outside;
 use crate::room::Room;
 use crate::told::tell;
@@ -13,7 +15,7 @@ use jac_io::{Door, Failed};
 use std::io;
 use std::io::ErrorKind;
 use std::marker::PhantomData;
-use std::net::{Ipv4Addr, SocketAddr, TcpListener, TcpStream};
+use std::net::{TcpListener, TcpStream};
 use std::time::Instant;
 
 /// A port of the host, for connections from the host itself. It tells the connections that are
@@ -24,7 +26,7 @@ pub struct HostDoor<'r, O: Outside> {
     outside: PhantomData<O>,
     room: Option<Room>,
     journal: Journal,
-    returned: Handed<HostLink<O>>,
+    returned: Handed<HandedLink>,
     faults: u64,
 }
 
@@ -43,25 +45,29 @@ impl<'r, O: Outside> HostDoor<'r, O> {
             faults: 0,
         }
     }
+
+    /// A law: the input of each connection that was handed back ends for good.
+    pub fn stand(&self)
+        ensures { AreEnded self.now.returned.items }
+    {}
 }
 
 impl<O: Outside> Door for HostDoor<'_, O> {
-    ghost use Rattle.jac_host.specs.Links.{door_seen};
+    ghost use Rattle.jac_host.specs.HandedLinks.{host_door_seen};
 
     type Line = HostLink<O>;
 
-    ghost seen = { λ d. door_seen O.inputs d.journal.events d.returned.items d.faults };
+    ghost seen = { λ d. host_door_seen O.inputs d.journal.events d.returned.items d.faults };
 
     fn listen(&mut self, port: u16) -> Result<(), Failed> {
-        let address = SocketAddr::from((Ipv4Addr::LOCALHOST, port));
-        match listen(self.rt, &mut self.journal, address, port) {
+        match listen(self.rt, &mut self.journal, port) {
             Ok(room) => {
                 tell_listening(self.rt, room.listener());
                 self.room = Some(room);
                 Ok(())
             }
             Err(error) => {
-                tell(self.rt, &address, &error);
+                tell(self.rt, &local_address(port), &error);
                 Err(counted(&mut self.faults))
             }
         }
@@ -84,10 +90,10 @@ impl<O: Outside> Door for HostDoor<'_, O> {
         }
     }
 
+    #[tactic(auto, using(crate::proofs::HandedLaws::one_more_handed))]
     fn close(&mut self, line: HostLink<O>) -> Result<(), Failed> {
-        self.returned = self.returned.and(&line);
-        let mut line = line;
-        read_away(&mut line);
+        let left = let_go(line);
+        self.returned = self.returned.and(&left);
         Ok(())
     }
 }

@@ -10,8 +10,10 @@ mod faults;
 mod files;
 mod frames;
 mod handed;
+mod handed_link;
 mod inherited;
 mod journal;
+mod laws;
 mod link;
 mod outside;
 mod pace;
@@ -21,6 +23,7 @@ mod told;
 
 pub use door::HostDoor;
 pub use files::HostFiles;
+pub use laws::some_input_agrees;
 pub use link::HostLink;
 pub use outside::{Outside, Unknown};
 pub use sinks::{HostAudit, Stdout};

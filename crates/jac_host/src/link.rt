@@ -1,6 +1,7 @@
 ghost use Rattle.std.specs.Prelude.{◌≡◌, ◌≤◌, ◌<◌, [], ◌∷◌, ◌++◌, length, take, IfOk, OnOk, OnErr, MatchResult};
 ghost use Rattle.jac_io.specs.Put.{AddsPrefix};
 ghost use Rattle.jac_host.specs.Events.{Gave, Came};
+ghost use Rattle.jac_host.specs.HandedLinks.{handed_seen};
 ghost use Rattle.jac_host.specs.Held.{HandsOver};
 ghost use Rattle.jac_host.specs.Sinks.{took};
 ghost use Rattle.jac_host.specs.Wrote.{OnlyWrites};
@@ -9,6 +10,7 @@ ghost use Rattle.jac_host.specs.Links.{came, input_at, fresh_link};
 use crate::ahead::{Ahead, Input};
 use crate::calls::{hand_on, none_came, one_came, write_once};
 use crate::faults::counted;
+use crate::handed_link::HandedLink;
 use crate::journal::Journal;
 use crate::outside::Outside;
 use crate::pace::Pace;
@@ -28,7 +30,7 @@ const LAST_READS: u32 = 64;
 /// A connection of the host. It tells the input that is supposed of it, as long as each take agreed
 /// with that, and the bytes that writes took. Each put is written through at once. Its input is at
 /// its end where the peer ended it, and where what is waited for didn't come in time: its first
-/// byte, the rest of a request, or one more request after a reply.
+/// byte, the rest of a request, or one more request after a reply. From then on it reads nothing.
 #[derive(Drop)]
 pub struct HostLink<O: Outside> {
     rt: HostRuntime,
@@ -37,20 +39,20 @@ pub struct HostLink<O: Outside> {
     input: Input,
     pace: Pace,
     journal: Journal,
+    ended: bool,
     faults: u64,
 }
 
 impl<O: Outside> Model for HostLink<O> {
-    ghost use Rattle.std.specs.Prelude.{◌≡◌, ◌++◌};
     ghost use Rattle.jac_io.specs.Linked.{LinkSeen};
+    ghost use Rattle.jac_host.specs.Held.{HoldsInput};
     ghost use Rattle.jac_host.specs.Links.{link_seen};
-    ghost use Rattle.jac_host.specs.Gave.{bytes_given};
 
     ghost Value = { LinkSeen };
 
     ghost view = { λ l. link_seen O.inputs l.journal.events l.faults };
 
-    ghost invariant = { λ l. bytes_given l.journal.events ++ l.input.rest ≡ l.input.whole };
+    ghost invariant = { λ l. HoldsInput l.journal.events l.input l.ended };
 }
 
 impl<O: Outside> Link for HostLink<O> {
@@ -58,6 +60,10 @@ impl<O: Outside> Link for HostLink<O> {
 
     #[tactic(auto, using(crate::proofs::LinkLaws::goes_further, crate::proofs::LinkLaws::at_end, crate::proofs::HeldLaws::taken_on))]
     fn take(&mut self, into: &mut [u8]) -> Result<usize, Failed> {
+        if self.ended {
+            none_came(&mut self.journal);
+            return Ok(0);
+        }
         match read_some(
             &self.rt,
             &mut self.stream,
@@ -66,7 +72,10 @@ impl<O: Outside> Link for HostLink<O> {
             &mut self.journal,
             into,
         ) {
-            Ok(count) => Ok(count),
+            Ok(count) => {
+                self.ended = count == 0;
+                Ok(count)
+            }
             Err(_) => Err(counted(&mut self.faults)),
         }
     }
@@ -96,6 +105,7 @@ fn read_some(
     journal: &mut Journal,
     into: &mut [u8],
 ) -> io::Result<usize>
+    requires room { 0 < length into.old }
     ensures within { IfOk result (λ count. count ≤ length into.new) }
     ensures same_length { length into.new ≡ length into.old }
     ensures noted { MatchResult result
@@ -136,6 +146,7 @@ fn read_in_time(
     into: &mut [u8],
 ) -> io::Result<usize>
     requires none_held { input.old.rest ≡ [] }
+    requires room { 0 < length into.old }
     ensures within { IfOk result (λ count. count ≤ length into.new) }
     ensures same_length { length into.new ≡ length into.old }
     ensures noted { MatchResult result
@@ -238,19 +249,35 @@ pub(crate) fn link_of<O: Outside>(
         input: Input::new(ahead),
         pace: Pace::new(now),
         journal: one_came(door),
+        ended: false,
         faults: 0,
     }
 }
 
-/// Reads away what has arrived, without waiting for more: a connection that ends with input unread
-/// is reset, and its peer may lose the last reply (RFC 9112, section 9.6).
-pub(crate) fn read_away<O: Outside>(line: &mut HostLink<O>) {
+/// Ends a connection, and gives what is left of it for clauses.
+pub(crate) fn let_go<O: Outside>(line: HostLink<O>) -> HandedLink
+    ensures { handed_seen O.inputs result ≡ line }
+{
+    let HostLink {
+        stream,
+        journal,
+        faults,
+        ..
+    } = line;
+    let mut stream = stream;
+    read_away(&mut stream);
+    HandedLink { journal, faults }
+}
+
+// Reads away what has arrived, without waiting for more: a connection that ends with input unread
+// is reset, and its peer may lose the last reply (RFC 9112, section 9.6).
+fn read_away(stream: &mut TcpStream) {
     let mut rest = [0u8; 4096];
-    if line.stream.set_nonblocking(true).is_err() {
+    if stream.set_nonblocking(true).is_err() {
         return;
     }
     'reads: for _ in 0..LAST_READS {
-        match line.stream.read(&mut rest) {
+        match stream.read(&mut rest) {
             Ok(0) => return,
             Ok(_) => {}
             Err(_) => return,

@@ -3,6 +3,7 @@
 
 ghost use Rattle.std.specs.Prelude.{◌≡◌, ◌<◌, IfOk, false, []};
 ghost use Rattle.jac_host.specs.Gave.{files_seen};
+ghost use Rattle.jac_host.specs.HandedLinks.{AreEnded};
 ghost use Rattle.jac_host.specs.Sinks.{sink_seen};
 ghost use Rattle.jac_host.specs.Links.{door_seen};
 ghost use Rattle.jac_serve_events.specs.Outside.{span};
@@ -94,7 +95,8 @@ struct Host<'h, O: Outside> {
 // are as it says, each clause holds of the bytes that writes took. `F` opens the store's file, and
 // supposes what it holds: where its bytes are as it says, each clause on what stood there holds of
 // the store that they stand for. A file that isn't attached at the end is left as it was opened.
-// The rows of one that tells then are well formed and committed.
+// The rows of one that tells then are well formed and committed. The input of each connection that
+// was handed back ends for good, so some input agrees with all that was read of it.
 fn run_host<O: Outside, F: FileOpens, L: Ledger, M: Ledger>(
     alloc: Global,
     words: &[Txt],
@@ -124,6 +126,7 @@ fn run_host<O: Outside, F: FileOpens, L: Ledger, M: Ledger>(
     ensures left { LeavesFile seen_kept (λ name. IsFileLeft F.Store.Store (F.Opener.gives name))
         vault.new }
     ensures stands { IsStoreStanding F.holds vault.new }
+    ensures ended { AreEnded host.new.door.returned.items }
 {
     let status = run(
         alloc,
@@ -138,6 +141,7 @@ fn run_host<O: Outside, F: FileOpens, L: Ledger, M: Ledger>(
     );
     vault.stand();
     vault.rows_stand();
+    host.door.stand();
     status
 }
 
