@@ -19,7 +19,7 @@ use Rattle.jac_sqlkeep.specs.Based.{Based, IsStanding}
 use Rattle.jac_sqlkeep.specs.Kept.{Kept, BeginsGiven}
 use Rattle.jac_reopen.specs.Reopened.{ReopenSeen, Supposed, seen_reopening, waiting_keeper}
 use Rattle.jac_host_vault.specs.Content.{IsFileOf}
-use Rattle.jac_host_vault.specs.HostSeen.{HostSeen, IsStorePlaced, IsStoreLeft, seen_memory, seen_unfiled, seen_waiting, seen_one, seen_host, faults_with, store_with, IsHost}
+use Rattle.jac_host_vault.specs.HostSeen.{HostSeen, IsStorePlaced, HasNoFile, IsStoreLeft, seen_memory, seen_unfiled, seen_waiting, seen_one, seen_host, faults_with, store_with, IsHost}
 
 -- ---- memory is called
 
@@ -130,6 +130,11 @@ pub memory_reshapes : (s : Supposed) (alone misnamed : Bool) (old new : KeeperSt
 memory_reshapes s true misnamed old new change schema result is reshapes = reshapes_alone misnamed old new change schema result reshapes
 memory_reshapes s false misnamed old new change schema result is reshapes = not_waiting s misnamed is
 
+-- ---- no file was asked for where there is none
+
+pub unopened_by : {V : Type 0} (seen : V → KeeperSeen) (h : HostSeen V) → IsHost seen h → h.file ≡ None → HasNoFile h
+unopened_by seen h host unfiled = (unfiled, λ un. host.waiting un unfiled)
+
 -- ---- before anything was attached nothing was asked for in vain
 
 module _ {V : Type 0} (s : Supposed) (seen : V → KeeperSeen) where
@@ -144,20 +149,20 @@ module _ {V : Type 0} (s : Supposed) (seen : V → KeeperSeen) where
   first_unfiled false true memory first = absurd (true≢false first)
   first_unfiled false false memory first = (λ alone. absurd (true≢false (sym alone)), refl)
 
-  first_in : (alone misnamed : Bool) (memory : KeeperState) (file : Option (ReopenSeen V)) → IsHost seen (record { memory = memory; file = file; alone = alone; misnamed = misnamed })
-      → (seen_one s seen alone misnamed memory file).store.called ≡ false → IsFirst (record { memory = memory; file = file; alone = alone; misnamed = misnamed })
-  first_in alone misnamed memory (Some f) host first = absurd (true≢false (sym host.called ∙ first))
-  first_in alone misnamed memory None host first =
+  first_in : (waits alone misnamed : Bool) (memory : KeeperState) (file : Option (ReopenSeen V)) → IsHost seen (record { memory = memory; file = file; waits = waits; alone = alone; misnamed = misnamed })
+      → (seen_one s seen alone misnamed memory file).store.called ≡ false → IsFirst (record { memory = memory; file = file; waits = waits; alone = alone; misnamed = misnamed })
+  first_in waits alone misnamed memory (Some f) host first = absurd (true≢false (sym host.called ∙ first))
+  first_in waits alone misnamed memory None host first =
       let it = first_unfiled alone misnamed memory first in
       record { uncalled = it.0; named = it.1; unfiled = refl }
 
   pub memory_first : (h : HostSeen V) → IsHost seen h → (seen_host s seen h).store.called ≡ false → h.alone ≡ true → h.memory.store.called ≡ false
-  memory_first h host first alone = (first_in h.alone h.misnamed h.memory h.file host first).uncalled alone
+  memory_first h host first alone = (first_in h.waits h.alone h.misnamed h.memory h.file host first).uncalled alone
 
   -- what is seen of a vault that was not called
   seen_first_of : (h : HostSeen V) (alone : Bool) → h.alone ≡ alone → IsHost seen h → (seen_host s seen h).store.called ≡ false → seen_unfiled s alone false h.memory ≡ seen_host s seen h
   seen_first_of h alone is host first =
-      let it = first_in h.alone h.misnamed h.memory h.file host first in
+      let it = first_in h.waits h.alone h.misnamed h.memory h.file host first in
       ap (λ (a : Bool). seen_unfiled s a false h.memory) (sym is)
       ∙ (ap (λ (m : Bool). seen_unfiled s h.alone m h.memory) (sym it.named)
       ∙ ap (λ (f : Option (ReopenSeen V)). seen_one s seen h.alone h.misnamed h.memory f) (sym it.unfiled))
@@ -175,7 +180,7 @@ module _ {V : Type 0} (s : Supposed) (seen : V → KeeperSeen) where
   -- what is seen of the vault then
   seen_then : (h : HostSeen V) (new : KeeperState) → h.alone ≡ true → IsHost seen h → (seen_host s seen h).store.called ≡ false → seen_memory false new ≡ seen_host s seen (record h { memory = new })
   seen_then h new alone host first =
-      let it = first_in h.alone h.misnamed h.memory h.file host first in
+      let it = first_in h.waits h.alone h.misnamed h.memory h.file host first in
       ap (λ (a : Bool). seen_unfiled s a false new) (sym alone)
       ∙ (ap (λ (m : Bool). seen_unfiled s h.alone m new) (sym it.named)
       ∙ ap (λ (f : Option (ReopenSeen V)). seen_one s seen h.alone h.misnamed new f) (sym it.unfiled))
@@ -188,7 +193,7 @@ module _ {V : Type 0} (s : Supposed) (seen : V → KeeperSeen) where
       (subst (λ (k : KeeperSeen). Attaches (seen_memory false h.memory) k name schema result) (seen_then h new alone host first) attaches)
 
   pub host_of_memory : (h : HostSeen V) (new : KeeperState) → IsHost seen h → IsTrue new.store.called → IsHost seen (record h { memory = new })
-  host_of_memory h new host called = record { called = host.called; detached = λ un. absurd (true≢false (sym called ∙ un)); unused = λ un. absurd (true≢false (sym called ∙ un)); unfiled = host.unfiled }
+  host_of_memory h new host called = record { called = host.called; detached = λ un. absurd (true≢false (sym called ∙ un)); unused = λ un. absurd (true≢false (sym called ∙ un)); unfiled = host.unfiled; waiting = host.waiting }
 
   -- ---- it is refused what it doesn't have
 
@@ -219,13 +224,13 @@ module _ {V : Type 0} (s : Supposed) (seen : V → KeeperSeen) where
   -- what is seen of the vault then
   seen_misnamed : (h : HostSeen V) → IsHost seen h → (seen_host s seen h).store.called ≡ false → seen_unfiled s h.alone true h.memory ≡ seen_host s seen (record h { misnamed = true })
   seen_misnamed h host first =
-      let it = first_in h.alone h.misnamed h.memory h.file host first in
+      let it = first_in h.waits h.alone h.misnamed h.memory h.file host first in
       ap (λ (f : Option (ReopenSeen V)). seen_one s seen h.alone true h.memory f) (sym it.unfiled)
 
   pub name_refused : (h : HostSeen V) (name : Option (List ℕ)) (schema : List ℕ) → IsHost seen h → (seen_host s seen h).store.called ≡ false
       → Attaches (seen_host s seen h) (seen_host s seen (record h { misnamed = true })) name schema (Err Failed)
   name_refused h name schema host first =
-      let it = first_in h.alone h.misnamed h.memory h.file host first in
+      let it = first_in h.waits h.alone h.misnamed h.memory h.file host first in
       subst (λ (k : KeeperSeen). Attaches k (seen_host s seen (record h { misnamed = true })) name schema (Err Failed)) (seen_first_of h h.alone refl host first)
       (subst (λ (k : KeeperSeen). Attaches (seen_unfiled s h.alone false h.memory) k name schema (Err Failed)) (seen_misnamed h host first) (refuses h.memory name schema h.alone (λ alone. host.unused (it.uncalled alone))))
 
@@ -243,20 +248,30 @@ module _ {V : Type 0} (s : Supposed) (seen : V → KeeperSeen) where
       → h.alone ≡ true → OnOk result (IsStorePlaced s seen Begins None schema (record h { memory = new }))
   memory_placed Begins h new schema (Err e) host first alone = tt
   memory_placed Begins h new schema (Ok done) host first alone =
-      let it = first_in h.alone h.misnamed h.memory h.file host first in
+      let it = first_in h.waits h.alone h.misnamed h.memory h.file host first in
       (it.unfiled, ap (λ (k : KeeperSeen). k.tells) (sym (seen_then h new alone host first)))
 
   -- ---- what is left where nothing is attached
 
-  -- no file was asked for, where the vault doesn't have what it was asked for
-  pub refused_left : (Leaves : Option (List ℕ) → V → Type 0) (h : HostSeen V) (name : Option (List ℕ)) → IsHost seen h → (seen_host s seen h).store.called ≡ false → IsStoreLeft Leaves name (record h { misnamed = true })
-  refused_left Leaves h None host first = (first_in h.alone h.misnamed h.memory h.file host first).unfiled
-  refused_left Leaves h (Some name) host first = inl (refl, (first_in h.alone h.misnamed h.memory h.file host first).unfiled)
+  -- nor by a vault that wasn't called
+  unopened_first : (h : HostSeen V) → IsHost seen h → (seen_host s seen h).store.called ≡ false → HasNoFile h
+  unopened_first h host first = unopened_by seen h host (first_in h.waits h.alone h.misnamed h.memory h.file host first).unfiled
 
-  -- nor where memory was
+  -- so what opens it is there, where there isn't memory alone
+  pub waits_first : (h : HostSeen V) → IsHost seen h → (seen_host s seen h).store.called ≡ false → h.alone ≡ false → h.waits ≡ true
+  waits_first h host first un = (unopened_first h host first).1 un
+
+  -- nor where the vault doesn't have what it was asked for
+  pub name_left : (Leaves : Option (List ℕ) → V → Type 0) (h : HostSeen V) (name : List ℕ) → IsHost seen h → (seen_host s seen h).store.called ≡ false → h.alone ≡ true → IsStoreLeft Leaves (Some name) (record h { misnamed = true })
+  name_left Leaves h name host first alone = inl (alone, refl, (unopened_first h host first).0)
+
+  pub unnamed_left : (Leaves : Option (List ℕ) → V → Type 0) (h : HostSeen V) → IsHost seen h → (seen_host s seen h).store.called ≡ false → IsStoreLeft Leaves None (record h { misnamed = true })
+  unnamed_left Leaves h host first = unopened_first h host first
+
+  -- nor where memory was asked for
   pub memory_left : (Leaves : Option (List ℕ) → V → Type 0) (h : HostSeen V) (new : KeeperState) (result : Result (Unit {0}) AttachFault) → IsHost seen h → (seen_host s seen h).store.called ≡ false → OnErr result (IsStoreLeft Leaves None (record h { memory = new }))
   memory_left Leaves h new (Ok done) host first = tt
-  memory_left Leaves h new (Err e) host first = (first_in h.alone h.misnamed h.memory h.file host first).unfiled
+  memory_left Leaves h new (Err e) host first = unopened_first h host first
 
 -- ---- a file that tells
 

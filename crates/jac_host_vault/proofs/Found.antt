@@ -82,7 +82,7 @@ module _ (s : Supposed) (schema : List ℕ) where
   tells_as_supposed : (f : Kept) → IsFound s schema f → IsTrue s.known → IsTrue (seen_kept f).tells → IsAsSupposed s schema (seen_kept f).state
   tells_as_supposed f found supposed told = as_supposed f f.database refl (found supposed) told
 
-  opens_supposed : (f : Kept) (name : Option (List ℕ)) (result : Result (Unit {0}) AttachFault) → OnOk result (OpensStore (seen_kept (untouched_keeper 0)) (seen_kept f) name schema) → OnOk result (IsFound s schema f)
+  opens_supposed : (f : Kept) (name : Option (List ℕ)) (result : Result (Unit {0}) AttachFault) → OnOk result (OpensStore (seen_kept (untouched_keeper 0 0)) (seen_kept f) name schema) → OnOk result (IsFound s schema f)
       → OnOk result (OpensStore (waiting_keeper s) (seen_kept f) name schema)
   opens_supposed f name (Err e) opens found = tt
   opens_supposed f name (Ok done) opens found = record {
@@ -95,11 +95,11 @@ module _ (s : Supposed) (schema : List ℕ) where
     made = λ told supposed. (tells_as_supposed f found supposed told).made;
   }
 
-  never_refused : (f : Kept) (result : Result (Unit {0}) AttachFault) → OnErr result (IsRefused (seen_kept (untouched_keeper 0)) (seen_kept f)) → OnErr result (IsRefused (waiting_keeper s) (seen_kept f))
+  never_refused : (f : Kept) (result : Result (Unit {0}) AttachFault) → OnErr result (IsRefused (seen_kept (untouched_keeper 0 0)) (seen_kept f)) → OnErr result (IsRefused (waiting_keeper s) (seen_kept f))
   never_refused f (Ok done) refused = tt
   never_refused f (Err e) refused = absurd (true≢false (sym refused.told))
 
-  pub supposed_first : (f : Kept) (name : Option (List ℕ)) (result : Result (Unit {0}) AttachFault) → Attaches (seen_kept (untouched_keeper 0)) (seen_kept f) name schema result → OnOk result (IsFound s schema f)
+  pub supposed_first : (f : Kept) (name : Option (List ℕ)) (result : Result (Unit {0}) AttachFault) → Attaches (seen_kept (untouched_keeper 0 0)) (seen_kept f) name schema result → OnOk result (IsFound s schema f)
       → Attaches (waiting_keeper s) (seen_kept f) name schema result
   supposed_first f name result attaches found = record {
     later = attaches.later;

@@ -1,5 +1,5 @@
 -- What is left of a file that wasn't attached, and of a vault that holds it.
-use Rattle.std.proofs.Common.{◌≡◌, ◌⊎◌, inl, inr, refl, sym, ap, subst, ◌∙◌, ℕ, List, Option, Some, None, Result, Ok, Err, OnErr, IsTrue, IsSomeAnd, arith}
+use Rattle.std.proofs.Common.{◌≡◌, ◌⊎◌, inl, inr, refl, sym, ap, subst, ◌∙◌, ℕ, List, Option, Some, None, Result, Ok, Err, OnOk, OnErr, IsTrue, IsSomeAnd, arith}
 use Rattle.sqlite_trees.specs.declared.store.Store.{Ghosts}
 use Rattle.sqlite.specs.Held.{Held}
 use Rattle.jac_io.specs.Faults.{Rose}
@@ -10,7 +10,8 @@ use Rattle.jac_sqlkeep.specs.Based.{Based}
 use Rattle.jac_sqlkeep.specs.Kept.{Kept, untouched_keeper, HasSchema, StoodAs, IsLeftAs, LearnsSchema}
 use Rattle.jac_reopen.specs.Reopened.{ReopenSeen}
 use Rattle.jac_host_vault.specs.HostSeen.{HostSeen, IsStoreLeft}
-use Rattle.jac_host_vault.specs.Left.{IsFileLeft}
+use Rattle.jac_host_vault.specs.Content.{IsFileOf}
+use Rattle.jac_host_vault.specs.Left.{IsOnlyFile, IsFileLeft}
 
 some_injective : {A : Type 0} → (x y : A) → Some x ≡ Some y → x ≡ y
 some_injective x y e = cc
@@ -23,7 +24,7 @@ both : {A : Type 0} (P Q : A → Type 0) (o : Option A) → IsSomeAnd o P → Is
 both P Q None one two = absurd one
 both P Q (Some a) one two = (one, two)
 
-pub file_left : {S : Type 0} (g : Ghosts S) (Gives : Held S → Type 0) (new : Kept) (result : Result (Unit {0}) AttachFault) → IsLeftAs g Gives (untouched_keeper 0) new result → LearnsSchema (untouched_keeper 0) new result
+pub file_left : {S : Type 0} (g : Ghosts S) (Gives : Held S → Type 0) (new : Kept) (result : Result (Unit {0}) AttachFault) → IsLeftAs g Gives (untouched_keeper 0 0) new result → LearnsSchema (untouched_keeper 0 0) new result
     → ((stored : List ℕ) → result ≡ Err (Other stored) → IsSomeAnd new.refused (HasSchema stored)) → (result ≡ Err Failed → Rose 0 new.faults) → OnErr result (IsFileLeft g Gives new)
 file_left g Gives new (Ok done) left learns stored rose = tt
 file_left g Gives new (Err Failed) left learns stored rose = record {
@@ -37,10 +38,20 @@ file_left g Gives new (Err Memory) left learns stored rose = record {
   stopped = λ none unfailed. left;
 }
 file_left g Gives new (Err (Other found)) left learns stored rose = record {
-  other = λ text is. subst (λ (x : List ℕ). IsSomeAnd new.refused (λ (b : Based). StoodAs g Gives b × HasSchema x b)) (some_injective found text (sym learns ∙ is)) (both (StoodAs g Gives) (HasSchema found) new.refused left (stored found refl));
+  other = λ text is. (
+    left.0,
+    subst (λ (x : List ℕ). IsSomeAnd new.refused (λ (b : Based). StoodAs g Gives b × HasSchema x b)) (some_injective found text (sym learns ∙ is))
+        (both (StoodAs g Gives) (HasSchema found) new.refused left.1 (stored found refl)),
+  );
   failed = λ none. none_or_some new.store.schema found none learns;
   stopped = λ none. none_or_some new.store.schema found none learns;
 }
+
+-- one that was attached is the only one that was opened
+pub only_file : {S : Type 0} (g : Ghosts S) (Gives : Held S → Type 0) (schema : List ℕ) (new : Kept) (result : Result (Unit {0}) AttachFault) → IsLeftAs g Gives (untouched_keeper 0 0) new result → OnOk result (IsFileOf schema new)
+    → OnOk result (IsOnlyFile schema new)
+only_file g Gives schema new (Ok done) one is = (one, is)
+only_file g Gives schema new (Err e) one is = tt
 
 -- ---- the vault that holds it
 

@@ -5,11 +5,12 @@ use Rattle.jac_keep.specs.KeeperSeen.{KeeperSeen, Store}
 use Rattle.jac_keep.specs.KeeperState.{KeeperState}
 use Rattle.jac_reopen.specs.Reopened.{ReopenSeen, Supposed, waiting_keeper, seen_reopening, IsLeftUnattached, GoesAlong, GivesUpAtFault}
 
--- the keeper in memory, and the one in a file, once that was attached; whether it has memory alone,
--- or a file alone, and was asked in vain for the other
+-- the keeper in memory, and the one in a file, once that was attached; whether it still has what
+-- opens the file; whether it has memory alone, or a file alone, and was asked in vain for the other
 pub record HostSeen (V : Type 0) : Type 0 where
   pub memory : KeeperState
   pub file : Option (ReopenSeen V)
+  pub waits : Bool
   pub alone : Bool
   pub misnamed : Bool
 
@@ -53,13 +54,14 @@ seen_one s seen alone misnamed memory (Some file) = seen_reopening seen file
 abbrev pub seen_host : {V : Type 0} → Supposed → (V → KeeperSeen) → HostSeen V → KeeperSeen
 seen_host s seen h = seen_one s seen h.alone h.misnamed h.memory h.file
 
--- a file was asked to attach, where there isn't memory alone; before memory was, it isn't attached,
--- and didn't fail
+-- a file was asked to attach, where there isn't memory alone, and until then what opens it is
+-- there; before memory was, it isn't attached, and didn't fail
 pub record IsHost {V : Type 0} (seen : V → KeeperSeen) (h : HostSeen V) : Type 0 where
   pub called : IfSome h.file (λ (f : ReopenSeen V). IsTrue (seen_reopening seen f).store.called)
   pub detached : h.memory.store.called ≡ false → h.memory.store.attached ≡ false
   pub unused : h.memory.store.called ≡ false → h.memory.faults ≡ 0
   pub unfiled : IsTrue h.alone → h.file ≡ None
+  pub waiting : h.alone ≡ false → h.file ≡ None → IsTrue h.waits
 
 -- what is attached: memory where there is no name, which tells; and else a file, of which this is
 -- known
@@ -69,20 +71,29 @@ IsStorePlaced s seen Begins None schema h = (h.file ≡ None) × IsTrue (seen_ho
 IsStorePlaced {V} s seen Begins (Some name) schema h = IsSomeAnd h.file (λ (f : ReopenSeen V).
     (f.again ≡ None) × IsSomeAnd f.first (Begins schema))
 
+-- it has no file: it has memory alone, or what opens the file is still there
+abbrev pub HasNoFile : {V : Type 0} → HostSeen V → Type 0
+HasNoFile h = (h.file ≡ None) × (h.alone ≡ false → IsTrue h.waits)
+
 -- what is left where nothing is attached: without a name no file was asked for; else one was, and
--- is left so, or the vault has memory alone, or opened its file before
+-- is left so, or the vault has memory alone
 abbrev pub IsStoreLeft : {V : Type 0} → (Option (List ℕ) → V → Type 0) → Option (List ℕ)
     → HostSeen V → Type 0
-IsStoreLeft Leaves None h = h.file ≡ None
-IsStoreLeft {V} Leaves (Some name) h = (IsTrue h.misnamed × (h.file ≡ None))
+IsStoreLeft Leaves None h = HasNoFile h
+IsStoreLeft {V} Leaves (Some name) h = (IsTrue h.alone × IsTrue h.misnamed × (h.file ≡ None))
     ⊎ IsSomeAnd h.file (λ (f : ReopenSeen V). (f.again ≡ None)
     × IsSomeAnd f.first (Leaves (Some name)))
 
--- so the file is left that was asked for, as long as it isn't attached
+-- so a file is left that isn't attached
+abbrev pub LeavesUnattached : {V : Type 0} → (V → KeeperSeen) → (Option (List ℕ) → V → Type 0)
+    → ReopenSeen V → Type 0
+LeavesUnattached seen Leaves f = IfSome f.first (IsLeftUnattached seen Leaves)
+
+-- so the file is left that was asked for, as long as it isn't attached, or none was asked for
 abbrev pub LeavesFile : {V : Type 0} → (V → KeeperSeen) → (Option (List ℕ) → V → Type 0)
     → HostSeen V → Type 0
-LeavesFile {V} seen Leaves h = IfSome h.file (λ (f : ReopenSeen V). IfSome f.first
-    (IsLeftUnattached seen Leaves))
+LeavesFile seen Leaves h = IfSome h.file (LeavesUnattached seen Leaves)
+    × (h.file ≡ None → HasNoFile h)
 
 -- so the rows of the file stand that was attached
 abbrev pub KeepsRows : {V : Type 0} → (V → Type 0) → HostSeen V → Type 0

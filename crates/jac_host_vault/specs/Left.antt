@@ -5,15 +5,25 @@ use Rattle.sqlite.specs.Held.{Held}
 use Rattle.jac_io.specs.Faults.{Rose}
 use Rattle.jac_sqlkeep.specs.Based.{Based}
 use Rattle.jac_sqlkeep.specs.Kept.{Kept, HasSchema, StoodAs}
+use Rattle.jac_host_vault.specs.Content.{IsFileOf}
+
+-- a file that is attached, by the only connection that its opener gave
+abbrev pub IsOnlyFile : List ℕ → Kept → Type 0
+IsOnlyFile schema k = (k.given ≡ 1) × IsFileOf schema k
+
+-- one that is refused: the only connection that its opener gave is left as it stood
+abbrev pub IsOnlyRefused : {S : Type 0} → Ghosts S → (Held S → Type 0) → Kept → Type 0
+IsOnlyRefused g Gives k = (k.given ≡ 1) × IsSomeAnd k.refused (StoodAs g Gives)
 
 -- A file that wasn't attached stands as its opener gave it. Where another schema is known, it is
 -- the one that is stored there. Where none is known and a fault was counted, either the file was
--- opened and is no store that can be read, or it wasn't opened. Else memory ran out.
+-- opened and is no store that can be read, or it wasn't opened. Else memory ran out, after the file
+-- was opened or before. No file was opened twice.
 pub record IsFileLeft {S : Type 0} (g : Ghosts S) (Gives : Held S → Type 0) (k : Kept) : Type 0
   where
-    pub other : (stored : List ℕ) → k.store.schema ≡ Some stored
-        → IsSomeAnd k.refused (λ (b : Based). StoodAs g Gives b × HasSchema stored b)
+    pub other : (stored : List ℕ) → k.store.schema ≡ Some stored → (k.given ≡ 1)
+        × IsSomeAnd k.refused (λ (b : Based). StoodAs g Gives b × HasSchema stored b)
     pub failed : k.store.schema ≡ None → Rose 0 k.faults
-        → Rose 0 k.unopened ⊎ IsSomeAnd k.refused (StoodAs g Gives)
+        → ((k.given ≡ 0) × Rose 0 k.unopened) ⊎ IsOnlyRefused g Gives k
     pub stopped : k.store.schema ≡ None → k.faults ≡ 0
-        → (k.refused ≡ None) ⊎ IsSomeAnd k.refused (StoodAs g Gives)
+        → ((k.given ≡ 0) × (k.refused ≡ None)) ⊎ IsOnlyRefused g Gives k

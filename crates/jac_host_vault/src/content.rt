@@ -33,7 +33,8 @@ pub trait FileOpens: Opener + Drop {
 
     /// One that makes the file if it isn't there, or one that doesn't open it then.
     fn new(rt: HostRuntime, makes: bool) -> Self
-        ensures { Self.Opener.faults result ≡ 0 };
+        ensures faults { Self.Opener.faults result ≡ 0 }
+        ensures gave { Self.Opener.gave result ≡ 0 };
 
     /// A law: where something is supposed, a database that is given by a clean disk holds it.
     fn stand()

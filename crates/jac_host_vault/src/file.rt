@@ -49,7 +49,7 @@ impl<O: FileOpens> FileKeeper<O> {
     /// A keeper that wasn't attached yet. Where it makes no files it opens those alone that are
     /// there.
     pub fn new(rt: HostRuntime, makes: bool) -> FileKeeper<O>
-        ensures { result ≡ untouched_keeper 0 }
+        ensures { result ≡ untouched_keeper 0 0 }
     {
         FileKeeper {
             rt,

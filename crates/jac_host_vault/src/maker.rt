@@ -32,14 +32,13 @@ impl<O: FileOpens> FileMaker<O> {
 
 impl<O: FileOpens> VaultMaker for FileMaker<O> {
     ghost use Rattle.jac_sqlkeep.specs.Kept.{HasStandingRows};
-    ghost use Rattle.jac_host_vault.specs.Content.{IsFileOf};
-    ghost use Rattle.jac_host_vault.specs.Left.{IsFileLeft};
+    ghost use Rattle.jac_host_vault.specs.Left.{IsOnlyFile, IsFileLeft};
 
     type Vault = CachedKeeper<FileKeeper<O>>;
 
     ghost supposes = { O.holds };
 
-    ghost begins = { IsFileOf };
+    ghost begins = { IsOnlyFile };
 
     ghost leaves = { λ name k. IsFileLeft O.Store.Store (O.Opener.gives name) k };
 

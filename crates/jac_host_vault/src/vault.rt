@@ -1,4 +1,4 @@
-ghost use Rattle.std.specs.Prelude.{◌≡◌, None, [], List, OnOk, OnErr, IsSome, true, false};
+ghost use Rattle.std.specs.Prelude.{◌≡◌, None, [], List, OnOk, OnErr, true, false};
 ghost use Rattle.std.specs.Option.{option_copied};
 ghost use Rattle.jac_rows.specs.Good.{ModelShape};
 ghost use Rattle.jac_keep.specs.Attaching.{Attaches};
@@ -27,6 +27,7 @@ pub struct HostVault<M: VaultMaker> {
 }
 
 impl<M: VaultMaker> Model for HostVault<M> {
+    ghost use Rattle.std.specs.Prelude.{is_some};
     ghost use Rattle.jac_host_vault.specs.HostSeen.{HostSeen, IsHost};
 
     ghost Value = { HostSeen M.Vault };
@@ -34,6 +35,7 @@ impl<M: VaultMaker> Model for HostVault<M> {
     ghost view = { λ h. record {
       memory = h.memory;
       file = h.file;
+      waits = is_some h.maker;
       alone = h.alone;
       misnamed = h.misnamed;
     } };
@@ -41,6 +43,7 @@ impl<M: VaultMaker> Model for HostVault<M> {
     ghost invariant = { λ h. IsHost M.Vault.Keeper.seen (record {
       memory = h.memory;
       file = h.file;
+      waits = is_some h.maker;
       alone = h.alone;
       misnamed = h.misnamed;
     }) };
@@ -63,6 +66,7 @@ impl<M: VaultMaker> HostVault<M> {
             faults = 0;
           };
           file = None;
+          waits = true;
           alone = false;
           misnamed = false;
         } }
@@ -91,6 +95,7 @@ impl<M: VaultMaker> HostVault<M> {
             faults = 0;
           };
           file = None;
+          waits = false;
           alone = true;
           misnamed = false;
         } }
@@ -104,7 +109,8 @@ impl<M: VaultMaker> HostVault<M> {
         }
     }
 
-    /// A law: where its file isn't attached, that is left as its maker says.
+    /// A law: where its file isn't attached, that is left as its maker says, or wasn't asked for.
+    #[tactic(auto, using(crate::proofs::Attached::unopened_by))]
     pub fn stand(&self)
         ensures { LeavesFile M.Vault.Keeper.seen M.leaves self.now }
     {
@@ -120,17 +126,6 @@ impl<M: VaultMaker> HostVault<M> {
         if let Some(file) = &self.file {
             file.rows_stand();
         }
-    }
-
-    // What opens the file, once, where there isn't memory alone.
-    fn take_maker(&mut self) -> Option<M>
-        ensures same { self.new ≡ self.old }
-        ensures some { IsSome result → self.old.alone ≡ false }
-    {
-        if self.alone {
-            return None;
-        }
-        self.maker.take()
     }
 }
 
@@ -227,7 +222,7 @@ impl<M: VaultMaker> Vault for HostVault<M> {
 
     /// The store of a name is a file; without one it is in memory. Where it has the other one
     /// alone, it fails.
-    #[tactic(auto, using(crate::proofs::Attached::memory_first, crate::proofs::Attached::file_attached, crate::proofs::Attached::memory_attached, crate::proofs::Attached::host_of_memory, crate::proofs::Attached::name_refused, crate::proofs::Attached::placed_in, crate::proofs::Attached::memory_placed, crate::proofs::Attached::refused_left, crate::proofs::Attached::memory_left, crate::proofs::Left::left_in))]
+    #[tactic(auto, using(crate::proofs::Attached::memory_first, crate::proofs::Attached::file_attached, crate::proofs::Attached::memory_attached, crate::proofs::Attached::host_of_memory, crate::proofs::Attached::name_refused, crate::proofs::Attached::placed_in, crate::proofs::Attached::memory_placed, crate::proofs::Attached::waits_first, crate::proofs::Attached::name_left, crate::proofs::Attached::unnamed_left, crate::proofs::Attached::memory_left, crate::proofs::Left::left_in))]
     fn attach(&mut self, alloc: Global, name: Option<&Txt>, schema: &Txt) -> Result<(), AttachFault>
         requires first { (seen_host M.supposes M.Vault.Keeper.seen self.old).store.called ≡ false }
         requires schema { (shapes : List ModelShape) × IsSchema schema.now shapes }
@@ -241,9 +236,12 @@ impl<M: VaultMaker> Vault for HostVault<M> {
     {
         match name {
             Some(name) => {
-                let Some(maker) = self.take_maker() else {
+                if self.alone {
                     self.misnamed = true;
                     return Err(AttachFault::Failed);
+                }
+                let Some(maker) = self.maker.take() else {
+                    unreachable!()
                 };
                 let (file, attached) = ReopeningKeeper::attach(alloc, maker, Some(name), schema);
                 self.file = Some(file);

@@ -3,7 +3,7 @@ ghost use Rattle.std.specs.Option.{option_copied};
 ghost use Rattle.jac_rows.specs.Good.{ModelShape};
 ghost use Rattle.jac_keep.specs.Attaching.{Attaches};
 ghost use Rattle.jac_keep.specs.Schema.{IsSchema};
-ghost use Rattle.jac_reopen.specs.Reopened.{Supposed, waiting_keeper, HasShapes};
+ghost use Rattle.jac_reopen.specs.Reopened.{Supposed, waiting_keeper, known_store, HasShapes};
 
 use crate::KnownStore;
 use jac_keep::{AttachFault, Stop, Vault};
@@ -45,11 +45,13 @@ pub trait VaultMaker: Drop {
         ensures begins { OnOk result.1 (begins schema.now result.0) }
         ensures left { OnErr result.1 (leaves (option_copied name.entry) result.0) };
 
-    /// A vault over a store that was attached before, with all the tests of attaching. It tells
-    /// nothing, since nobody knows what became of the store meanwhile.
+    /// A vault over a store that was attached before: it is attached under the same name, with the
+    /// same schema. It tells nothing, since nobody knows what became of the store meanwhile.
     fn attach_again(&mut self, alloc: Global, store: &KnownStore) -> Result<Self::Vault, Stop>
         requires schema { HasShapes store.now }
         ensures attached { IfOk result (λ v. IsTrue (Self.Vault.Keeper.seen v).store.attached) }
+        ensures store { IfOk result (λ v. (Self.Vault.Keeper.seen v).store
+            ≡ known_store store.now) }
         ensures untold { IfOk result (λ v. (Self.Vault.Keeper.seen v).tells ≡ false) };
 
     /// Says to whoever runs the program that a call of the vault over this store failed.

@@ -1,6 +1,7 @@
 -- A keeper that is attached to the database that was opened.
-use Rattle.std.proofs.Common.{◌≡◌, refl, sym, ap, subst, ◌∙◌, ℕ, ◌≤◌, Bool, true, false, true≢false, List, [], length, Option, Some, None, is_some, Ok, Err, Result, IsTrue, IsSomeAnd, inl, inr, arith}
+use Rattle.std.proofs.Common.{◌≡◌, refl, sym, ap, subst, ◌∙◌, ℕ, ◌+◌, ◌≤◌, Bool, true, false, true≢false, List, [], length, Option, Some, None, is_some, Ok, Err, Result, IsTrue, IsSomeAnd, inl, inr, arith}
 use Rattle.jac_value.specs.declared.value.Kind.{Kind}
+use Rattle.jac_io.specs.Faults.{Rose}
 use Rattle.jac_rows.specs.Good.{ModelShape}
 use Rattle.jac_rows.specs.declared.state.State.{State}
 use Rattle.jac_keep.specs.Attaching.{Attaches}
@@ -59,13 +60,13 @@ brought_fit k d schema shapes kinds nested change base is also fits told =
     let fit : IsFit shapes (widened_state (length shapes) s) = subst (λ (o : Option Based). IsFit shapes (widened_state (length shapes) (changed_state change (based_state o)))) base (fits (ap tells_of base ∙ told)) in
     subst (λ n. IsFit (shapes_by kinds nested) (widened_state n s)) (length_shapes kinds nested) (subst (λ ks. IsFit ks (widened_state (length ks) s)) same fit)
 
-module _ (called : Bool) (before name : Option (List ℕ)) (faults unopened : ℕ) (refused database : Option Based) where
+module _ (called : Bool) (before name : Option (List ℕ)) (faults unopened given : ℕ) (refused database : Option Based) where
   -- what such a keeper was
   abbrev was : Kept
-  was = record { store = record { called = called; attached = is_some database; schema = before; name = name }; faults = faults; unopened = unopened; database = database; refused = refused }
+  was = record { store = record { called = called; attached = is_some database; schema = before; name = name }; faults = faults; unopened = unopened; given = given; database = database; refused = refused }
 
   abbrev brought : Based → List ℕ → Kept
-  brought e copy = record { store = record { called = called; attached = true; schema = Some copy; name = name }; faults = faults; unopened = unopened; database = Some e; refused = refused }
+  brought e copy = record { store = record { called = called; attached = true; schema = Some copy; name = name }; faults = faults; unopened = unopened; given = given; database = Some e; refused = refused }
 
   pub reshaped_now : (old : Kept) (d e : Based) (copy schema : List ℕ) (change : Change) (kinds : List (List Kind)) (nested : List Bool) → was ≡ old → database ≡ Some d → copy ≡ schema → IsSchema schema (shapes_by kinds nested)
       → ReshapesBased change schema (length kinds) d e (Ok tt) → Reshapes (seen_kept old) (seen_kept (brought e copy)) change schema (Ok tt)
@@ -101,16 +102,25 @@ module _ {S E : Type 0} (g : Ghosts S) (Gives : Held S → Type 0) (schema : Lis
   stood_as : Stood g given b → (o : Option Based) → o ≡ Some b → IsSomeAnd o (StoodAs g Gives)
   stood_as stood o some = subst (λ (o : Option Based). IsSomeAnd o (StoodAs g Gives)) (sym some) (record { given = given; gave = gave; stood = stood })
 
-  pub left_other : (old before new : Kept) (stored : List ℕ) (result : Result (Unit {0}) AttachFault) → r ≡ Ok (Some stored) → IsRefusedAs before new b stored result → IsLeftAs g Gives old new result
-  left_other old before new stored (Ok done) is refused = absurd refused
-  left_other old before new stored (Err Failed) is refused = absurd refused
-  left_other old before new stored (Err Memory) is refused = inr (stood_as (subst (OpensBased g schema kinds nested given b) is opens).2 new.refused (ap (λ (k : Kept). k.refused) refused))
-  left_other old before new stored (Err (Other told)) is refused = stood_as (subst (OpensBased g schema kinds nested given b) is opens).2 new.refused (ap (λ (k : Kept). k.refused) refused.1)
+  pub left_other : (old before new : Kept) (stored : List ℕ) (result : Result (Unit {0}) AttachFault) → before.given ≡ old.given + 1 → r ≡ Ok (Some stored) → IsRefusedAs before new b stored result → IsLeftAs g Gives old new result
+  left_other old before new stored (Ok done) one is refused = absurd refused
+  left_other old before new stored (Err Failed) one is refused = absurd refused
+  left_other old before new stored (Err Memory) one is refused =
+      inr (ap (λ (k : Kept). k.given) refused ∙ one, stood_as (subst (OpensBased g schema kinds nested given b) is opens).2 new.refused (ap (λ (k : Kept). k.refused) refused))
+  left_other old before new stored (Err (Other told)) one is refused =
+      (ap (λ (k : Kept). k.given) refused.1 ∙ one, stood_as (subst (OpensBased g schema kinds nested given b) is opens).2 new.refused (ap (λ (k : Kept). k.refused) refused.1))
 
-  pub left_failed : (old new : Kept) (e : E) (fault : AttachFault) → r ≡ Err e → new.refused ≡ Some b → IsLeftAs g Gives old new (Err fault)
-  left_failed old new e Failed is some = inr (stood_as (subst (OpensBased g schema kinds nested given b) is opens) new.refused some)
-  left_failed old new e Memory is some = inr (stood_as (subst (OpensBased g schema kinds nested given b) is opens) new.refused some)
-  left_failed old new e (Other told) is some = stood_as (subst (OpensBased g schema kinds nested given b) is opens) new.refused some
+  pub left_failed : (old new : Kept) (e : E) (fault : AttachFault) → new.given ≡ old.given + 1 → r ≡ Err e → new.refused ≡ Some b → IsLeftAs g Gives old new (Err fault)
+  left_failed old new e Failed one is some = inr (one, stood_as (subst (OpensBased g schema kinds nested given b) is opens) new.refused some)
+  left_failed old new e Memory one is some = inr (one, stood_as (subst (OpensBased g schema kinds nested given b) is opens) new.refused some)
+  left_failed old new e (Other told) one is some = (one, stood_as (subst (OpensBased g schema kinds nested given b) is opens) new.refused some)
+
+-- nothing was opened
+pub left_unopened : {S : Type 0} (g : Ghosts S) (Gives : Held S → Type 0) (old new : Kept) (fault : AttachFault) → (fault ≡ Failed → Rose old.unopened new.unopened) → ((stored : List ℕ) → ¬ (fault ≡ Other stored))
+    → new.given ≡ old.given → new.refused ≡ old.refused → IsLeftAs g Gives old new (Err fault)
+left_unopened g Gives old new Failed rose other none same = inl (none, rose refl)
+left_unopened g Gives old new Memory rose other none same = inl (none, same)
+left_unopened g Gives old new (Other stored) rose other none same = absurd (other stored refl)
 
 -- ---- what is known where nothing was attached
 

@@ -1,5 +1,5 @@
 -- what contracts see of a keeper over SQLite
-use Rattle.std.specs.Prelude.{◌≡◌, ◌⊎◌, ⊤, ℕ, Bool, false, List, [], Option, Some, None, IfSome, Result, Ok, Err, IsTrue, IsSomeAnd}
+use Rattle.std.specs.Prelude.{◌≡◌, ◌+◌, ◌⊎◌, ⊤, ℕ, Bool, false, List, [], Option, Some, None, IfSome, Result, Ok, Err, IsTrue, IsSomeAnd}
 use Rattle.sqlite_trees.specs.declared.store.Store.{Ghosts}
 use Rattle.sqlite.specs.Held.{Held}
 use Rattle.jac_value.specs.declared.value.Kind.{Kind}
@@ -11,12 +11,13 @@ use Rattle.jac_keep.specs.declared.vault.AttachFault.{AttachFault}
 use Rattle.jac_keep.specs.declared.vault.AttachFault.TheVariants.{Failed, Memory, Other}
 use Rattle.jac_sqlkeep.specs.Based.{Based, DatabaseGoesOn, Begins, Stood, TellsStanding}
 
--- its store, how often it failed, and how often that was an opening, its database, once it has one,
--- and the one that was refused
+-- its store, how often it failed, and how often that was an opening, how many connections its
+-- opener gave, its database, once it has one, and the one that was refused
 pub record Kept : Type 0 where
   pub store : Store
   pub faults : ℕ
   pub unopened : ℕ
+  pub given : ℕ
   pub database : Option Based
   pub refused : Option Based
 
@@ -37,9 +38,9 @@ seen_kept k = record {
   store = k.store;
 }
 
--- one that nobody tried to attach, over an opener that failed so often
-abbrev pub untouched_keeper : ℕ → Kept
-untouched_keeper unopened = record {
+-- one that nobody tried to attach, over an opener that failed so often and gave so many connections
+abbrev pub untouched_keeper : ℕ → ℕ → Kept
+untouched_keeper unopened given = record {
   store = record {
     called = false;
     attached = false;
@@ -48,6 +49,7 @@ untouched_keeper unopened = record {
   };
   faults = 0;
   unopened = unopened;
+  given = given;
   database = None;
   refused = None;
 }
@@ -91,15 +93,28 @@ pub record StoodAs {S : Type 0} (g : Ghosts S) (Gives : Held S → Type 0) (b : 
   pub gave : Gives given
   pub stood : Stood g given b
 
--- what a refused store is left as: where one could be opened, as it stood
+-- the opener gave no connection
+abbrev pub GaveNone : Kept → Kept → Type 0
+GaveNone old new = new.given ≡ old.given
+
+-- it gave one, and no other
+abbrev pub GaveOne : Kept → Kept → Type 0
+GaveOne old new = new.given ≡ old.given + 1
+
+-- it gave one, which is refused and left as it stood
+abbrev pub IsOneLeft : {S : Type 0} → Ghosts S → (Held S → Type 0) → Kept → Kept → Type 0
+IsOneLeft g Gives old new = GaveOne old new × IsSomeAnd new.refused (StoodAs g Gives)
+
+-- what attaching leaves: the one connection that the opener gave is attached, or is refused and
+-- left as it stood, or the opener gave none
 abbrev pub IsLeftAs : {S : Type 0} → Ghosts S → (Held S → Type 0) → Kept → Kept
     → Result (Unit {0}) AttachFault → Type 0
-IsLeftAs g Gives old new (Ok done) = ⊤
+IsLeftAs g Gives old new (Ok done) = GaveOne old new
 IsLeftAs g Gives old new (Err Failed) =
-    Rose old.unopened new.unopened ⊎ IsSomeAnd new.refused (StoodAs g Gives)
+    (GaveNone old new × Rose old.unopened new.unopened) ⊎ IsOneLeft g Gives old new
 IsLeftAs g Gives old new (Err Memory) =
-    (new.refused ≡ old.refused) ⊎ IsSomeAnd new.refused (StoodAs g Gives)
-IsLeftAs g Gives old new (Err (Other stored)) = IsSomeAnd new.refused (StoodAs g Gives)
+    (GaveNone old new × (new.refused ≡ old.refused)) ⊎ IsOneLeft g Gives old new
+IsLeftAs g Gives old new (Err (Other stored)) = IsOneLeft g Gives old new
 
 -- what attaching that ended so lets know: the schema that is stored where it is another one, and
 -- else none; want of memory isn't counted

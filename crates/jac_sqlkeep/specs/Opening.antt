@@ -1,5 +1,5 @@
 -- what opening a database leaves
-use Rattle.std.specs.Prelude.{◌≡◌, ◌≤◌, ℕ, List, Result, Err}
+use Rattle.std.specs.Prelude.{◌≡◌, ◌≤◌, ◌+◌, ℕ, Bool, true, false, List, Result, Ok, Err}
 use Rattle.sqlite_wal.specs.Recovery.{Image}
 use Rattle.sqlite.specs.State.{State as Sql, HasCleanDisk, Opens, IsLive}
 use Rattle.sqlite.specs.Start.{FindsIn}
@@ -12,6 +12,16 @@ pub record OpensFile {T : Type 0} (old new : ℕ) (result : Result T AttachFault
   pub later : old ≤ new
   pub rose : result ≡ Err Failed → Rose old new
   pub other : (stored : List ℕ) → ¬ (result ≡ Err (Other stored))
+
+-- it gives one connection more, or fails and gives none
+abbrev pub GivesOne : {T : Type 0} → ℕ → ℕ → Result T AttachFault → Type 0
+GivesOne old new (Ok given) = new ≡ old + 1
+GivesOne old new (Err fault) = new ≡ old
+
+-- how many connections were given by what gives one at most
+abbrev pub one_or_none : Bool → ℕ
+one_or_none true = 1
+one_or_none false = 0
 
 -- a connection to files that held these bytes as they were opened: where the disk has returned what
 -- was written it is open, and its database is what the bytes stand for

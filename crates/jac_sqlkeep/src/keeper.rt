@@ -48,7 +48,7 @@ impl<O: Opener> Model for SqlKeeper<O> {
 
     ghost Value = { Kept };
 
-    ghost view = { λ k. record { store = record { called = k.called; attached = is_some k.database; schema = k.schema; name = k.name }; faults = k.faults; unopened = O.faults k.opener; database = k.database; refused = k.refused } };
+    ghost view = { λ k. record { store = record { called = k.called; attached = is_some k.database; schema = k.schema; name = k.name }; faults = k.faults; unopened = O.faults k.opener; given = O.gave k.opener; database = k.database; refused = k.refused } };
 
     ghost invariant = { λ k. IsTrue (is_some k.database) → IsTrue k.called };
 }
@@ -58,7 +58,7 @@ impl<O: Opener> SqlKeeper<O> {
 
     /// A keeper that wasn't attached yet.
     pub fn new(opener: O) -> SqlKeeper<O>
-        ensures { result ≡ untouched_keeper (O.faults opener) }
+        ensures { result ≡ untouched_keeper (O.faults opener) (O.gave opener) }
     {
         SqlKeeper {
             opener,
@@ -275,7 +275,7 @@ impl<O: Opener> Vault for SqlKeeper<O> {
     ghost use Rattle.jac_sqlkeep.specs.Kept.{seen_kept};
 
     /// A store that was made before is read and tested whole. What is no store is left as it is.
-    #[tactic(auto, using(crate::proofs::Attached::learns_failed))]
+    #[tactic(auto, using(crate::proofs::Attached::learns_failed, crate::proofs::Attached::left_unopened))]
     fn attach(&mut self, alloc: Global, name: Option<&Txt>, schema: &Txt) -> Result<(), AttachFault>
         requires first { self.old.store.called ≡ false }
         requires schema { (shapes : List ModelShape) × IsSchema schema.now shapes }

@@ -6,7 +6,7 @@ ghost use Rattle.sqlite.specs.State.{HasCleanDisk};
 ghost use Rattle.sqlite.specs.Steps.{over_memory, IsEmpty};
 ghost use Rattle.sqlite_wal.specs.Files.{image_at};
 ghost use Rattle.jac_io.specs.Faults.{Rose};
-ghost use Rattle.jac_sqlkeep.specs.Opening.{OpensFile, IsFileGiven};
+ghost use Rattle.jac_sqlkeep.specs.Opening.{OpensFile, IsFileGiven, GivesOne, one_or_none};
 
 use crate::cause::stop_of;
 use jac_keep::{AttachFault, Stop};
@@ -25,6 +25,9 @@ pub trait Opener {
     /// How often an opening failed. It never falls, and stands still at 2^64 - 1.
     ghost faults: { Self → ℕ };
 
+    /// How many connections it has given.
+    ghost gave: { Self → ℕ };
+
     /// What is known of a connection of this name as it is given.
     ghost gives: { Option (List ℕ) → Held Self.Store → Type 0 };
 
@@ -35,6 +38,7 @@ pub trait Opener {
         name: Option<&Txt>,
     ) -> Result<Connection<Self::Store>, AttachFault>
         ensures opens { OpensFile (faults self.old) (faults self.new) result }
+        ensures counts { GivesOne (gave self.old) (gave self.new) result }
         ensures gives { IfOk result (gives (option_copied name.entry)) }
         ensures outside { IfOk result (λ c. c.in_transaction ≡ false) };
 }
@@ -52,10 +56,11 @@ pub enum OpenFault {
     Other,
 }
 
-// How the file of an opener was opened: the name of the log that was made, why the last opening
-// failed, and how often one did.
+// How the file of an opener was opened: whether it was, the name of the log that was made, why the
+// last opening failed, and how often one did.
 #[derive(Drop)]
 struct Outcome {
+    opened: bool,
     log: Option<Txt>,
     fault: Option<OpenFault>,
     faults: u64,
@@ -63,9 +68,11 @@ struct Outcome {
 
 impl Outcome {
     fn none() -> Outcome
-        ensures { result.faults ≡ 0 }
+        ensures faults { result.faults ≡ 0 }
+        ensures opened { result.opened ≡ false }
     {
         Outcome {
+            opened: false,
             log: None,
             fault: None,
             faults: 0,
@@ -76,6 +83,7 @@ impl Outcome {
         ensures later { self.old.faults ≤ self.new.faults }
         ensures rose { Rose self.old.faults self.new.faults }
         ensures failed { result ≡ AttachFault.Failed }
+        ensures same { self.new.opened ≡ self.old.opened }
     {
         self.fault = Some(fault);
         self.faults = self.faults.saturating_add(1);
@@ -96,7 +104,8 @@ pub struct FileOpener<S: Start> {
 impl<S: Start> FileOpener<S> {
     /// One that makes the file if it isn't there, or one that doesn't open it then.
     pub fn new(rt: HostRuntime, makes: bool, start: S) -> FileOpener<S>
-        ensures { result.outcome.faults ≡ 0 }
+        ensures faults { result.outcome.faults ≡ 0 }
+        ensures opened { result.outcome.opened ≡ false }
     {
         FileOpener {
             rt,
@@ -123,6 +132,8 @@ impl<S: Start> Opener for FileOpener<S> {
 
     ghost faults = { λ o. o.outcome.faults };
 
+    ghost gave = { λ o. one_or_none o.outcome.opened };
+
     ghost gives = { λ name c. IsFileGiven (image_at S.Start) (file_state c) × IsNew c };
 
     /// `Failed` without a name, and where it opened a file before. That it is the file of the name
@@ -133,6 +144,8 @@ impl<S: Start> Opener for FileOpener<S> {
         name: Option<&Txt>,
     ) -> Result<Connection<FileStore<FileFrom<S>>>, AttachFault>
         ensures opens { OpensFile self.old.outcome.faults self.new.outcome.faults result }
+        ensures counts { GivesOne (one_or_none self.old.outcome.opened)
+            (one_or_none self.new.outcome.opened) result }
         ensures gives { IfOk result (λ c. IsFileGiven (image_at S.Start) (file_state c)
             × IsNew c) }
         ensures outside { IfOk result (λ c. c.in_transaction ≡ false) }
@@ -157,7 +170,8 @@ pub struct HostOpener {
 impl HostOpener {
     /// One that makes the file if it isn't there, or one that doesn't open it then.
     pub fn new(rt: HostRuntime, makes: bool) -> HostOpener
-        ensures { result.outcome.faults ≡ 0 }
+        ensures faults { result.outcome.faults ≡ 0 }
+        ensures opened { result.outcome.opened ≡ false }
     {
         HostOpener {
             rt,
@@ -184,6 +198,8 @@ impl Opener for HostOpener {
 
     ghost faults = { λ o. o.outcome.faults };
 
+    ghost gave = { λ o. one_or_none o.outcome.opened };
+
     ghost gives = { λ name c. (HasCleanDisk (file_state c) → IsOpened c) × IsNew c };
 
     fn open(
@@ -192,6 +208,8 @@ impl Opener for HostOpener {
         name: Option<&Txt>,
     ) -> Result<Connection<FileStore<File>>, AttachFault>
         ensures opens { OpensFile self.old.outcome.faults self.new.outcome.faults result }
+        ensures counts { GivesOne (one_or_none self.old.outcome.opened)
+            (one_or_none self.new.outcome.opened) result }
         ensures gives { IfOk result (λ c. (HasCleanDisk (file_state c) → IsOpened c) × IsNew c) }
         ensures outside { IfOk result (λ c. c.in_transaction ≡ false) }
         ensures unnamed { option_copied name.entry ≡ None → IsErr result }
@@ -211,6 +229,8 @@ fn open_once<S: Start>(
     outcome: &mut Outcome,
 ) -> Result<Connection<FileStore<FileFrom<S>>>, AttachFault>
     ensures opens { OpensFile outcome.old.faults outcome.new.faults result }
+    ensures counts { GivesOne (one_or_none outcome.old.opened) (one_or_none outcome.new.opened)
+        result }
     ensures gives { IfOk result (λ c. IsFileGiven (image_at S.Start) (file_state c) × IsNew c) }
     ensures plain { IfOk result (λ c. (HasCleanDisk (file_state c) → IsOpened c) × IsNew c) }
     ensures outside { IfOk result (λ c. c.in_transaction ≡ false) }
@@ -223,9 +243,13 @@ fn open_once<S: Start>(
     let Some(start) = start else {
         return Err(outcome.fail(OpenFault::Other));
     };
+    if outcome.opened {
+        return Err(outcome.fail(OpenFault::Other));
+    }
     let log = log_to_come(rt, name);
     match open_file(rt, name, log.as_ref(), start) {
         Ok(conn) => {
+            outcome.opened = true;
             outcome.log = log;
             Ok(conn)
         }
@@ -324,11 +348,15 @@ fn log_beside(alloc: Global, name: &str) -> Result<Txt, AllocError> {
 
 /// Opens a new database in memory, whatever the name.
 #[derive(Drop)]
-pub struct MemoryOpener {}
+pub struct MemoryOpener {
+    given: u64,
+}
 
 impl MemoryOpener {
-    pub fn new() -> MemoryOpener {
-        MemoryOpener {}
+    pub fn new() -> MemoryOpener
+        ensures { result.given ≡ 0 }
+    {
+        MemoryOpener { given: 0 }
     }
 }
 
@@ -337,16 +365,25 @@ impl Opener for MemoryOpener {
 
     ghost faults = { λ _. 0 };
 
+    ghost gave = { λ o. o.given };
+
     ghost gives = { λ name c. IsEmpty (state over_memory c) × IsNew c };
 
-    /// It has no table at all.
+    /// It has no table at all. After 2^64 - 1 databases it gives none.
     fn open(&mut self, alloc: Global, _: Option<&Txt>) -> Result<Connection<MemStore>, AttachFault>
         ensures opens { OpensFile 0 0 result }
+        ensures counts { GivesOne self.old.given self.new.given result }
         ensures gives { IfOk result (λ c. IsEmpty (state over_memory c) × IsNew c) }
         ensures outside { IfOk result (λ c. c.in_transaction ≡ false) }
     {
+        let Some(given) = self.given.checked_add(1) else {
+            return Err(AttachFault::Memory);
+        };
         match Connection::open_in_memory(alloc) {
-            Ok(conn) => Ok(conn),
+            Ok(conn) => {
+                self.given = given;
+                Ok(conn)
+            }
             Err(_) => Err(AttachFault::Memory),
         }
     }

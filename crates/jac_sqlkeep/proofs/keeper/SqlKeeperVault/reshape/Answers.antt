@@ -13,7 +13,7 @@ reshape-requires g c =
 pub returns-in-Ok-reshape-clause-reshapes : goal.returns-in-Ok-reshape-clause-reshapes
 returns-in-Ok-reshape-clause-reshapes g c =
     let base : c.self.inside.database ≡ Some c.in-Some.database = search rules in
-    reshaped_now c.self.inside.called c.self.inside.schema c.self.inside.name c.self.inside.faults _ c.self.inside.refused c.self.inside.database c.args.self.now c.in-Some.database c.reshape.new.self c.in-Ok.known.schema c.args.schema.now
+    reshaped_now c.self.inside.called c.self.inside.schema c.self.inside.name c.self.inside.faults _ _ c.self.inside.refused c.self.inside.database c.args.self.now c.in-Some.database c.reshape.new.self c.in-Ok.known.schema c.args.schema.now
     c.args.change.now c.in-Ok.known.shape.kinds c.in-Ok.known.shape.nested c.self.view_is base c.in-Ok.ensures.schema c.in-Ok.ensures.shape c.in-Ok-reshape.ensures.reshapes
 
 pub returns-in_default-clause-goes : goal.returns-in_default-clause-goes
