@@ -1,18 +1,18 @@
 #!/usr/bin/env python3
-"""Runs the built program on the worked cases of checks/cases. Words: the program, and parts of the names of the
-cases that are wanted, or none for all. Prints each case that fails, and ends with a count.
+"""Runs the built program on the worked cases of checks/cases. Arguments: the program, and parts of the names of the
+cases to run, or none to run all. Prints each failed case, then a count.
 
-A case is a file NAME.case. It begins with what it shows and why its outcome is right, which comes from the language
-and its definitions and never from what the program put. Behind it stand sections, each a line `== ..` and the lines
-up to the next:
+A case is a file NAME.case. It begins with a text that says what the case shows and why its outcome is right. The reason
+comes from the language and its definitions, never from the program's output. Sections follow. Each section is a line
+`== ..` and the lines up to the next such line:
 
     == file NAME                     a file in the folder of the runs
     == file NAME, no last line feed  the same without the line feed of its last line
-    == run WORDS                     a run of the program with these words, quoted as a shell reads them
+    == run WORDS                     a run of the program with these arguments, quoted as for a shell
     == status N                      the exit status of the runs above
-    == out                           and all that they put on standard output
-    == wrote NAME                    and the file of this name that each of them left, each beginning with the file
-                                     as the case has it, or with none
+    == out                           the whole standard output of each of these runs
+    == wrote NAME                    the file of this name that each of them left; before each run the file is as the
+                                     case defines it, or doesn't exist
 """
 import contextlib
 import os
@@ -33,7 +33,7 @@ class Malformed(Exception):
 
 
 def sections(text):
-    """The heads of the sections, each with its lines as bytes."""
+    """Returns the head of each section, with its lines as bytes."""
     parts = re.split(r'(?m)^== (.*)\n', text)
     if not parts[0].strip():
         raise Malformed('it does not say what it shows')
@@ -41,7 +41,7 @@ def sections(text):
 
 
 def parse(text):
-    """The files, and the runs: their words, with status and output."""
+    """Returns the files, and for each run its arguments, its exit status, its output and the files that it leaves."""
     files, runs, waiting, status = {}, [], [], None
     for head, content in sections(text):
         kind, _, rest = head.partition(' ')
@@ -66,7 +66,7 @@ def parse(text):
 
 
 def put(folder, name, content):
-    """Has the file hold this, or has it gone where that is nothing."""
+    """Writes the file, or removes it if there is no content."""
     with contextlib.suppress(FileNotFoundError):
         os.remove(os.path.join(folder, name))
     if content is not None:
@@ -75,7 +75,7 @@ def put(folder, name, content):
 
 
 def failures(program, text):
-    """What is wrong in a case, a line for each run."""
+    """Yields a line for each thing that is wrong in a case."""
     files, runs = parse(text)
     with tempfile.TemporaryDirectory() as folder:
         for name, content in files.items():
@@ -96,7 +96,7 @@ def failures(program, text):
 
 
 def main():
-    words = proved.words(names={'metavar': 'NAME', 'nargs': '*', 'help': 'a part of the names of the cases that run'})
+    words = proved.words(names={'metavar': 'NAME', 'nargs': '*', 'help': 'run only the cases whose names contain this'})
     program = proved.program(words.program)
     names = [name for name in sorted(os.listdir(FOLDER)) if not words.names or any(w in name for w in words.names)]
     failed = 0
