@@ -28,18 +28,19 @@ use Rattle.jac_serve_events.proofs.OutsideLemmas.{Rose-widen}
 use Rattle.jac_command_base.proofs.ExitReasonLemmas.{is_attached}
 use Rattle.jac_command_base.proofs.StartupLemmas.{application_read, idle_behind, idle_with}
 
--- the text of the tables from one on
+-- The text of the tables from this place on.
 abbrev pub text_from : (ℕ → Bool) → List ModelDef → ℕ → KeeperSeen → List ℕ
 text_from w models place k = tables_text (entities_of models) place (map (rows_at w) k.state.tables)
 
--- a loop over the models: the store was read, and the text so far, before that of the tables left, is that of all
+-- In a loop over the models, the store was read, and the text so far, followed by that of the
+-- tables left, is the result.
 pub record Pushes (old new : KeeperSeen) (w : ℕ → Bool) (models : List ModelDef) (before : List ℕ) (left : List ModelDef) (place : ℕ) (text : List ℕ) : Type 0 where
   pub is_left : IsLeft old new
   pub attached : IsTrue new.store.attached
   pub counted : place + length left ≡ length models
   pub joined : IsTrue new.tells → text ++ text_from w left place old ≡ before ++ text_from w models 0 old
 
--- what is left between two moments and on to a third
+-- What is unchanged from one moment to a second and from there to a third.
 pub left_then : (a b c : KeeperSeen) → IsLeft a b → IsLeft b c → IsLeft a c
 left_then a b c one two = record {
   later = omega (arith, one.later, two.later);
@@ -52,11 +53,11 @@ or_none-map : (w : ℕ → Bool) (o : Option (List Row)) → rows_or_none (optio
 or_none-map w None = refl
 or_none-map w (Some t) = refl
 
--- the table of a model, projected
+-- The table of a model, projected.
 rows_of-project : (w : ℕ → Bool) (tables : List (List Row)) (m : ℕ) → rows_of (map (rows_at w) tables) m ≡ rows_at w (rows_of tables m)
 rows_of-project w tables m = ap rows_or_none (slice_get-map (rows_at w) tables m) ∙ or_none-map w (slice_get tables m)
 
--- a loop over the models goes on with the next one, and ends
+-- The loop over the models: its next step and its end.
 pub push_next : (old now new : KeeperSeen) (w : ℕ → Bool) (models : List ModelDef) (before : List ℕ) (model : ModelDef) (rest : List ModelDef) (place : ℕ) (text next : List ℕ)
     → Pushes old now w models before (model ∷ rest) place text → IsLeft now new
     → (IsTrue new.tells → next ≡ text ++ table_text (entity_of model) (rows_at w (rows_of now.state.tables place)))
@@ -84,12 +85,12 @@ held_step : (model : Entity) (r : PlainRow) (held : Bool) (rest : List PlainRow)
 held_step model r true rest = refl
 held_step model r false rest = refl
 
--- a row before the rows after it
+-- A row, followed by the rows after it.
 pub row_step : (model : Entity) (w : ℕ → Bool) (row : Row) (rest : List Row) →
     table_text model (rows_at w (row ∷ rest)) ≡ (if holds w row.guard then record_line model (record { id = row.id; cells = row.cells }) else []) ++ table_text model (rows_at w rest)
 row_step model w row rest = held_step model (record { id = row.id; cells = row.cells }) (holds w row.guard) (rows_at w rest)
 
--- all tables were put, and then the number
+-- All tables were put, and then the number.
 pub state_dumped : (app : App) (w : ℕ → Bool) (old mid new : KeeperSeen) (tables text : List ℕ) (number : ℕ)
     → IsLeft old mid → IsLeft mid new
     → (IsTrue mid.tells → tables ≡ [] ++ text_from w app.models 0 old) → (IsTrue new.tells → number ≡ mid.state.number)
@@ -103,11 +104,11 @@ state_dumped app w old mid new tables text number first second pushed counted jo
     ∙ ap (λ (s : State). tables_text (entities_of app.models) 0 (map (rows_at w) s.tables) ++ number_line mid.state.number) (sym (first.same_state back))
     ∙ ap (λ (s : State). dump_text (application_of app) (project_at w s)) (sym (second.same_state told))
 
--- assignments that show the same labels are equal
+-- Assignments that show the same labels are equal.
 pub same_shown : (P : (ℕ → Bool) → Type 0) (v w : ℕ → Bool) → ((k : ℕ) → v k ≡ w k) → P v → P w
 same_shown P v w same h = subst P (λ i k. same k i) h
 
--- a store that wasn't attached ends the steps
+-- A store that wasn't attached ends the steps.
 pub unattached_ends : (db : Option (List ℕ)) (app : Application) (w : ℕ → Bool) (out : Span SinkSeen) (k : Span KeeperSeen) (exit_reason : ExitReason)
     → AttachesAs db app k (Err exit_reason) → EndsDumping db app w out k (Err exit_reason) []
 unattached_ends db app w out k exits.StoreFault h = (h.0, inl h.1)
@@ -123,7 +124,7 @@ unattached_ends db app w out k (exits.LineRefused event_fault) h = absurd h
 unattached_ends db app w out k (exits.SessionsRefused line) h = absurd h
 unattached_ends db app w out k exits.WriteFault h = absurd h
 
--- an attached store was read
+-- A store that was attached was read.
 module _ (db : Option (List ℕ)) (app : Application) (w : ℕ → Bool) (out : Span SinkSeen) (before opened after : KeeperSeen)
     (attaches : AttachesAs db app (span before opened) (Ok tt)) (left : IsLeft opened after) where
   dumped : (result : Result (Unit {0}) ExitReason) (put : List ℕ) → EndsRead app w out (span opened after) result put → IsDumped db app w out (span before after) result put
@@ -144,7 +145,7 @@ module _ (db : Option (List ℕ)) (app : Application) (w : ℕ → Bool) (out : 
   read_ends (Err (exits.LineRefused event_fault)) put h = dumped (Err (exits.LineRefused event_fault)) put h
   read_ends (Err (exits.SessionsRefused line)) put h = dumped (Err (exits.SessionsRefused line)) put h
 
--- a dump that was halted as it began
+-- A dump that ended when it began.
 module _ (files : Span FilesSeen) (out audit later : SinkSeen) (keeper : Span KeeperSeen) (dumping : DumpArgs) (exit_reason : ExitReason) where
   dump_barred : (app : Application) (sessions : List Session) (events : List ℕ) → AreFilesRead (commands.Dump dumping) files app sessions events
       → IsStoppedAiming (commands.Dump dumping) (span audit later) keeper exit_reason ⊎ IsBarred (commands.Dump dumping) app (span audit later) keeper exit_reason
@@ -167,7 +168,7 @@ module _ (files : Span FilesSeen) (out audit later : SinkSeen) (keeper : Span Ke
       (inl (early.ends (span out out) (span audit later) keeper, idle_with (span audit later) keeper early.uncalled early.still))
   dump_halted (inr behind) = dump_barred behind.app behind.sessions behind.events behind.read behind.halts
 
--- one that began, and then read its store
+-- A dump that began, and then read its store.
 pub dump_ended : (files : Span FilesSeen) (out_before out_after audit later : SinkSeen) (before opened after : KeeperSeen) (dumping : DumpArgs) (w : ℕ → Bool)
     (app : Application) (sessions : List Session) (events : List ℕ) (result : Result (Unit {0}) ExitReason)
     → HasBegun (commands.Dump dumping) files (span audit later) (span before opened) app sessions events

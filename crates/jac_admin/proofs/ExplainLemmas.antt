@@ -26,11 +26,11 @@ use Rattle.jac_command_base.proofs.StartupLemmas.{application_read, idle_behind,
 use Rattle.jac_admin.specs.Explain.{asker_of, why_line, why_lines, whys_text, context_with, IsExplanation, EndsExplained, EndsExplain}
 use Rattle.jac_plain.specs.Shown.{worlds_of}
 
--- a state that fits has sound tables
+-- A state that fits has sound tables.
 pub sound_tables : (app : Application) (s : State) → IsFit (shapes_of app) s → HasSoundTables s
 sound_tables app s fit = record { next = s.number; sound = sound_if_good (shapes_of app) s fit.good }
 
--- one line more
+-- One more line.
 pub lines_on : (models : List Entity) (left more : List Explanation) (x : Explanation) (text new all : List ℕ) → left ≡ x ∷ more
     → new ≡ text ++ why_line models x → text ++ why_lines models left ≡ all → new ++ why_lines models more ≡ all
 lines_on models left more x text new all is added so_far =
@@ -48,11 +48,11 @@ none_behind [] (suc i) past = refl
 none_behind (e ∷ es) zero past = absurd (omega (arith, past))
 none_behind (e ∷ es) (suc i) past = none_behind es i (omega (arith, past))
 
--- the first of those that stand, and the rest
+-- The tests hold for the first explanation and for the rest.
 pub standing_parts : (p : Explanation → Bool) (left more : List Explanation) (x : Explanation) → left ≡ x ∷ more → list_all p left ≡ true → (p x ≡ true) × (list_all p more ≡ true)
 standing_parts p left more x is stand = and_parts (p x) (list_all p more) (ap (list_all p) (sym is) ∙ stand)
 
--- the lines of all answers, where each was found and then stood the test
+-- The lines of all explanations, if each was found and then passed the test.
 pub all_lines : (app : Application) (viewer : Option ℕ) (s testing : State) (labels live text : List ℕ) (es : List Explanation)
     → testing ≡ s → es ≡ all_whys (context_with app viewer s labels) live
     → (list_all (is_standing (context_with app viewer testing labels)) es ≡ true → text ≡ whys_text app.models labels es)
@@ -63,7 +63,7 @@ all_lines app viewer s testing labels live text es same found tested =
     subst (λ (t : State). list_all (is_standing (context_with app viewer t labels)) es ≡ true → text ≡ whys_text app.models labels es) same tested in
     tested_now (ap (list_all (is_standing context)) found ∙ all_stand context live) ∙ ap (whys_text app.models labels) found
 
--- what was read at three moments, of which each tells the state of the first
+-- What was read at three moments at which the state was the same.
 pub explained : (app : Application) (viewer : Option ℕ) (s settling asking : State) (live labels text : List ℕ)
     → settling ≡ s → asking ≡ s
     → IsAscending live → AreLive app (worlds_of s) live → IsSettled app (worlds_of settling) viewer labels
@@ -82,7 +82,7 @@ explained app viewer s settling asking live labels text one two up are settled l
           settled_now.allowed;
     }
 
--- a `why` that was halted as it began
+-- A `why` that ended when it began.
 module _ (files : Span FilesSeen) (out audit later : SinkSeen) (keeper : Span KeeperSeen) (explaining : WhyArgs) (exit_reason : ExitReason) where
   why_barred : (app : Application) (sessions : List Session) (events : List ℕ) → AreFilesRead (commands.Why explaining) files app sessions events
       → IsStoppedAiming (commands.Why explaining) (span audit later) keeper exit_reason ⊎ IsBarred (commands.Why explaining) app (span audit later) keeper exit_reason
@@ -105,7 +105,7 @@ module _ (files : Span FilesSeen) (out audit later : SinkSeen) (keeper : Span Ke
       (inl (early.ends (span out out) (span audit later) keeper, idle_with (span audit later) keeper early.uncalled early.still))
   why_halted (inr behind) = why_barred behind.app behind.sessions behind.events behind.read behind.halts
 
--- one that began, and then asked its store
+-- A `why` that began, and then asked its store.
 pub why_ended : (files : Span FilesSeen) (out_before out_after audit later : SinkSeen) (before opened after : KeeperSeen) (explaining : WhyArgs)
     (app : Application) (sessions : List Session) (events : List ℕ) (result : Result (Unit {0}) ExitReason)
     → HasBegun (commands.Why explaining) files (span audit later) (span before opened) app sessions events → IsLeft opened after

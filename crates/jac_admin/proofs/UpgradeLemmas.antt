@@ -47,13 +47,13 @@ field_found fs i f item below =
 pub field_missing : (fs : List Field) (i : ℕ) → length fs ≤ i → [] ≡ field_name_in (slice_get fs i)
 field_missing fs i past = rw (slice_get_past fs i past) refl
 
--- the ending of a refusal, as a result
+-- The reason of a refusal, as a result.
 pub lacking_told : (exit_reason : ExitReason) (line : List ℕ) → (exit_reason ≡ exits.UpgradeRefused line) ⊎ (exit_reason ≡ exits.Memory)
     → (◌≡◌ {A = Result (Unit {0}) ExitReason} (Err exit_reason) (Err (exits.UpgradeRefused line))) ⊎ (◌≡◌ {A = Result (Unit {0}) ExitReason} (Err exit_reason) (Err exits.Memory))
 lacking_told exit_reason line (inl told) = inl (ap (λ (e : ExitReason). Err e) told)
 lacking_told exit_reason line (inr memory) = inr (ap (λ (e : ExitReason). Err e) memory)
 
--- memory ran out before a store was attached
+-- Memory ran out before a store was attached.
 pub unattached_still : (db : Option (List ℕ)) (app : Application) (k : KeeperSeen) → AttachesAs db app (span k k) (Err exits.Memory)
 unattached_still db app k = record {
   no_out = refl;
@@ -62,7 +62,7 @@ unattached_still db app k = record {
   refused = λ told. record { told = told; same_state = refl; same_schema = refl };
 }
 
--- an application has a shape for each model
+-- An application has a shape for each model.
 one_each : (models rest : List Entity) → length (shapes_of_models models rest) ≡ length rest
 one_each models [] = refl
 one_each models (m ∷ rest) = ap suc (one_each models rest)
@@ -70,7 +70,7 @@ one_each models (m ∷ rest) = ap suc (one_each models rest)
 length_shapes : (app : Application) → length (shapes_of app) ≡ length app.models
 length_shapes app = one_each app.models app.models
 
--- a change that was made of what the store keeps, and the schema under which it is to be applied
+-- A change that was made from what the store keeps, and the schema under which it is to be applied.
 module _ (old new : Application) (before middle : KeeperSeen) (change : Change) (schema : List ℕ)
     (left : IsLeft before middle) (text : schema ≡ schema_text new)
     (is_schema : IsSchema (schema_text new) (shapes_of new))

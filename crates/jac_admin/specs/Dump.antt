@@ -28,7 +28,8 @@ use Rattle.jac_command_base.specs.Early.{IsEndedEarly}
 
 -- ---- the text
 
--- a number in decimal, a text in quotes, a word for a truth, and the id of a reference or `none`
+-- A number in decimal, a text in quotes, a truth value as a word, and a reference as its id or
+-- `none`.
 abbrev pub cell_text : Value → List ℕ
 cell_text (values.Int i) = signed_decimal i
 cell_text (values.Text t) = quoted_bytes t
@@ -37,14 +38,14 @@ cell_text (values.Bool false) = codes "false"
 cell_text (values.Ref None) = codes "none"
 cell_text (values.Ref (Some id)) = decimal id
 
--- ` FIELD=VALUE` for each field
+-- ` FIELD=VALUE` for each field.
 abbrev pub cells_text : List Field → List Value → List ℕ
 cells_text [] vs = []
 cells_text (f ∷ fs) [] = []
 cells_text (f ∷ fs) (v ∷ vs) =
     codes " " ++ (f.name ++ (codes "=" ++ (cell_text v ++ cells_text fs vs)))
 
--- `MODEL ID` and its fields
+-- `MODEL ID` and its fields.
 abbrev pub record_line : Entity → PlainRow → List ℕ
 record_line model r = model.name
     ++ (codes " " ++ (decimal r.id ++ (cells_text model.fields r.cells ++ codes "\n")))
@@ -53,7 +54,7 @@ abbrev pub table_text : Entity → List PlainRow → List ℕ
 table_text model [] = []
 table_text model (r ∷ rs) = record_line model r ++ table_text model rs
 
--- the tables of these models, of which the first one has the place k
+-- The tables of these models. The first model has the place k.
 abbrev pub tables_text : List Entity → ℕ → List (List PlainRow) → List ℕ
 tables_text [] k tables = []
 tables_text (m ∷ ms) k tables = table_text m (rows_of tables k) ++ tables_text ms (k + 1) tables
@@ -61,37 +62,37 @@ tables_text (m ∷ ms) k tables = table_text m (rows_of tables k) ++ tables_text
 abbrev pub number_line : ℕ → List ℕ
 number_line n = codes "number " ++ (decimal n ++ codes "\n")
 
--- a line for each record, by model and id, and the number of the next request
+-- A line for each record, by model and id, and the number of the next request.
 abbrev pub dump_text : Application → PlainState → List ℕ
 dump_text app s = tables_text app.models 0 s.tables ++ number_line s.number
 
 -- ---- the steps
 
--- the labels that are shown
+-- The labels that are shown.
 abbrev pub labels_dumped : Command → List ℕ
 labels_dumped (commands.Dump dumping) = dumping.labels
 labels_dumped command = []
 
--- the text is that of what the store tells, as the assignment shows it
+-- If the contents of the store are known, the text is their dump, projected with this assignment.
 abbrev pub IsDumpOf : Application → (ℕ → Bool) → KeeperSeen → List ℕ → Type 0
 IsDumpOf app w k text = IsTrue k.tells → text ≡ dump_text app (project_at w k.state)
 
--- the text of what the store tells was put, or the front of it
+-- The text of the store's contents was put, or a prefix of it.
 pub record IsPrinted (app : Application) (w : ℕ → Bool) (out : Span SinkSeen) (k : KeeperSeen)
     (result : Result (Unit {0}) ExitReason) (put : List ℕ) : Type 0 where
   pub text : List ℕ
   pub told : IsDumpOf app w k text
   pub puts : PutsText out text result put
 
--- an attached store was read: nothing was put where that failed or memory ran out, and else its
--- text
+-- A store that was attached was read. If that failed or memory ran out, nothing was put. Otherwise,
+-- its text was put.
 abbrev pub EndsRead : Application → (ℕ → Bool) → Span SinkSeen → Span KeeperSeen
     → Result (Unit {0}) ExitReason → List ℕ → Type 0
 EndsRead app w out k (Err exits.StoreFault) put = (put ≡ []) × Rose k.before.faults k.after.faults
 EndsRead app w out k (Err exits.Memory) put = put ≡ []
 EndsRead app w out k result put = IsPrinted app w out k.after result put
 
--- a store was attached and read, which left it as it was
+-- A store was attached and read, and reading left it unchanged.
 pub record IsDumped (db : Option (List ℕ)) (app : Application) (w : ℕ → Bool) (out : Span SinkSeen)
     (k : Span KeeperSeen) (result : Result (Unit {0}) ExitReason) (put : List ℕ) : Type 0 where
   pub opened : KeeperSeen
@@ -99,7 +100,7 @@ pub record IsDumped (db : Option (List ℕ)) (app : Application) (w : ℕ → Bo
   pub left : IsLeft opened k.after
   pub ends : EndsRead app w out (span opened k.after) result put
 
--- how the steps from the attaching on end
+-- How the steps from the attachment on end.
 abbrev pub EndsDumping : Option (List ℕ) → Application → (ℕ → Bool) → Span SinkSeen
     → Span KeeperSeen → Result (Unit {0}) ExitReason → List ℕ → Type 0
 EndsDumping db app w out k (Err exits.StoreFault) put =
@@ -111,7 +112,7 @@ EndsDumping db app w out k (Err exits.Memory) put = IsUnattached k put []
     ⊎ IsDumped db app w out k (Err exits.Memory) put
 EndsDumping db app w out k result put = IsDumped db app w out k result put
 
--- the application was read, and its store was dumped; the audit was left alone
+-- The application was read, and its store was dumped. The audit was left alone.
 pub record IsDumping (seen : Sight) (command : Command) (result : Result (Unit {0}) ExitReason)
     (out_bytes audit_bytes : List ℕ) : Type 0 where
   pub app : Application
@@ -122,7 +123,7 @@ pub record IsDumping (seen : Sight) (command : Command) (result : Result (Unit {
       result
       out_bytes
 
--- what the steps of a dump put, and why they ended
+-- What the steps of a dump put, and why they ended.
 abbrev pub EndsDump : Sight → Command → Result (Unit {0}) ExitReason → List ℕ → List ℕ → Type 0
 EndsDump seen command result out audit = IsEndedEarly seen command result out audit
     ⊎ IsDumping seen command result out audit

@@ -31,18 +31,18 @@ use Rattle.jac_plain.specs.Shown.{worlds_of}
 
 -- ---- the lines
 
--- the labels that the viewer is shown, as the audit writes them
+-- The labels that the viewer is shown, written as in the audit.
 abbrev pub shown_line : List ℕ → List ℕ
 shown_line labels = codes "shown " ++ (labels_text labels ++ codes "\n")
 
--- `LABEL MODEL ID GROUP`
+-- `LABEL MODEL ID GROUP`.
 abbrev pub reason_text : List Entity → Reason → List ℕ
 reason_text models r =
     decimal r.label
     ++ (codes " " ++ (entity_name (slice_get models r.model)
     ++ (codes " " ++ (decimal (record_of_label r.label) ++ (codes " " ++ decimal r.group)))))
 
--- a label that isn't shown, and what stands against it
+-- A label that isn't shown, and what prevents it.
 abbrev pub why_line : List Entity → Explanation → List ℕ
 why_line models e =
     reason_text models (as_reason e.hidden)
@@ -55,7 +55,7 @@ why_lines models (e ∷ es) = why_line models e ++ why_lines models es
 abbrev pub whys_text : List Entity → List ℕ → List Explanation → List ℕ
 whys_text models labels es = shown_line labels ++ why_lines models es
 
--- the labels with the worlds of a state
+-- The labels, with the worlds of a state.
 abbrev pub context_with : Application → Option ℕ → State → List ℕ → PlainContext
 context_with app viewer s labels = record {
   app = app;
@@ -64,8 +64,8 @@ context_with app viewer s labels = record {
   labels = labels;
 }
 
--- the text has first labels that are settled for the viewer, and then each other live label of
--- the state, rising, with what stands against it
+-- The text begins with labels that are settled for the viewer. Then follows each other live label
+-- of the state, in ascending order, with what prevents it.
 pub record IsExplanation (app : Application) (viewer : Option ℕ) (s : State) (text : List ℕ)
     : Type 0 where
   pub labels : List ℕ
@@ -78,7 +78,7 @@ pub record IsExplanation (app : Application) (viewer : Option ℕ) (s : State) (
 
 -- ---- the steps
 
--- who asks by a number: nobody, where it is no id of the viewer's model
+-- The viewer with this number: nobody if it is no id of the viewer's model.
 abbrev pub asker_of : Application → Option ℕ → Option ℕ
 asker_of app number = option_and_then (viewer_of app) number
 
@@ -86,7 +86,7 @@ abbrev pub asker_in : Command → Application → Option ℕ
 asker_in (commands.Why explaining) app = asker_of app explaining.viewer
 asker_in command app = None
 
--- the text of what the store tells was put, or the front of it
+-- The text of the store's contents was put, or a prefix of it.
 pub record IsTextExplained (app : Application) (viewer : Option ℕ) (out : Span SinkSeen)
     (k : KeeperSeen)
     (result : Result (Unit {0}) ExitReason) (put : List ℕ) : Type 0 where
@@ -94,14 +94,14 @@ pub record IsTextExplained (app : Application) (viewer : Option ℕ) (out : Span
   pub explains : IsTrue k.tells → IsExplanation app viewer k.state text
   pub puts : PutsText out text result put
 
--- an attached store was read: nothing was put where that failed or memory ran out, and else its
--- text
+-- A store that was attached was read. If that failed or memory ran out, nothing was put. Otherwise,
+-- its text was put.
 abbrev pub EndsExplained : Application → Option ℕ → Span SinkSeen → Span KeeperSeen
     → Result (Unit {0}) ExitReason → List ℕ → Type 0
 EndsExplained app viewer out k result put =
     IsTextExplained app viewer out k.after result put ⊎ IsKept k result put
 
--- a store was attached and read, which left it as it was
+-- A store was attached and read, and reading left it unchanged.
 pub record IsExplained (db : Option (List ℕ)) (app : Application) (viewer : Option ℕ)
     (out : Span SinkSeen) (k : Span KeeperSeen) (result : Result (Unit {0}) ExitReason)
     (put : List ℕ)
@@ -111,13 +111,13 @@ pub record IsExplained (db : Option (List ℕ)) (app : Application) (viewer : Op
   pub left : IsLeft opened k.after
   pub ends : EndsExplained app viewer out (span opened k.after) result put
 
--- how the steps from the attaching on end
+-- How the steps from the attachment on end.
 abbrev pub EndsExplaining : Option (List ℕ) → Application → Option ℕ → Span SinkSeen
     → Span KeeperSeen → Result (Unit {0}) ExitReason → List ℕ → Type 0
 EndsExplaining db app viewer out k result put =
     IsStoreUnmoved db app k result put ⊎ IsExplained db app viewer out k result put
 
--- the application was read, and its store was asked; the audit was left alone
+-- The application was read, and its store was asked. The audit was left alone.
 pub record IsExplaining (seen : Sight) (command : Command) (result : Result (Unit {0}) ExitReason)
     (out_bytes audit_bytes : List ℕ) : Type 0 where
   pub app : Application
@@ -128,7 +128,7 @@ pub record IsExplaining (seen : Sight) (command : Command) (result : Result (Uni
       EndsExplaining (db_of command) app (asker_in command app) seen.out seen.keeper result
       out_bytes
 
--- what the steps of a `why` put, and why they ended
+-- What the steps of a `why` put, and why they ended.
 abbrev pub EndsExplain : Sight → Command → Result (Unit {0}) ExitReason → List ℕ → List ℕ → Type 0
 EndsExplain seen command result out audit =
     IsEndedEarly seen command result out audit ⊎ IsExplaining seen command result out audit

@@ -29,8 +29,8 @@ use Rattle.jac_command_base.specs.Files.{Sight, HasApplication, HasNext}
 
 -- ---- the lines
 
--- why the second application doesn't extend the first: `model NAME`, `field NAME FIELD` or
--- `group NAME G` of the first
+-- Why the second application doesn't extend the first: `model NAME`, `field NAME FIELD` or `group
+-- NAME G` of the first.
 abbrev pub lack_line : List Entity → UpgradeFault → List ℕ
 lack_line models (lacks.Model m) =
     codes "upgrade: model " ++ (entity_name (slice_get models m) ++ 10 ∷ [])
@@ -42,14 +42,14 @@ lack_line models (lacks.Group m g) =
     codes "upgrade: group "
     ++ (entity_name (slice_get models m) ++ (codes " " ++ (decimal g ++ 10 ∷ [])))
 
--- how many records were brought to the second application
+-- The number of records that were upgraded to the second application.
 abbrev pub upgraded_line : ℕ → List ℕ
 upgraded_line n = codes "upgraded " ++ (decimal n ++ codes " records\n")
 
 -- ---- the steps
 
--- the second application doesn't extend the first: the first part that it lacks, or has
--- otherwise, is told, or memory ran out; the store was not called
+-- The second application doesn't extend the first. The line names the first part that is missing or
+-- differs, unless memory ran out. The store was not called.
 pub record IsLacking (old new : Application) (k : Span KeeperSeen)
     (result : Result (Unit {0}) ExitReason) (put : List ℕ) : Type 0 where
   pub fault : UpgradeFault
@@ -60,7 +60,7 @@ pub record IsLacking (old new : Application) (k : Span KeeperSeen)
   pub no_out : put ≡ []
   pub still : IsStill k
 
--- the store was not attached for the first application, and is as it was
+-- The store was not attached for the first application, and is unchanged.
 pub record IsStoreUnmoved (db : Option (List ℕ)) (old : Application) (k : Span KeeperSeen)
     (result : Result (Unit {0}) ExitReason) (put : List ℕ) : Type 0 where
   pub exit_reason : ExitReason
@@ -68,9 +68,8 @@ pub record IsStoreUnmoved (db : Option (List ℕ)) (old : Application) (k : Span
   pub attaches : AttachesAs db old k (Err exit_reason)
   pub no_out : put ≡ []
 
--- so many records were brought to the second application, under which they are stored from now
--- on: what the store keeps shows under every assignment the upgraded tables, and is good for that
--- application
+-- This many records were upgraded to the second application, and are stored under its schema. Under
+-- every assignment, the store shows the upgraded tables, and it is good for that application.
 pub record IsUpgraded (old new : Application) (k : Span KeeperSeen) (count : ℕ) : Type 0 where
   pub later : k.before.faults ≤ k.after.faults
   pub store : k.after.store ≡ record k.before.store { schema = Some (schema_text new) }
@@ -82,15 +81,15 @@ pub record IsUpgraded (old new : Application) (k : Span KeeperSeen) (count : ℕ
   pub counted : IsTrue k.after.tells →
       (ids : List ℕ) × AreIdsOf k.before.state ids × (count ≡ length ids)
 
--- they were, and how many there are was put, or the front of it
+-- The records were upgraded, and their number was put, or a prefix of its line.
 pub record IsReported (old new : Application) (out : Span SinkSeen) (k : Span KeeperSeen)
     (result : Result (Unit {0}) ExitReason) (put : List ℕ) : Type 0 where
   pub count : ℕ
   pub upgraded : IsUpgraded old new k count
   pub puts : PutsText out (upgraded_line count) result put
 
--- a read of the store or its change failed, or memory ran out: its rows, its number and its schema
--- are as they were
+-- A read of the store or its change failed, or memory ran out. The rows, the number and the schema
+-- are unchanged.
 pub record IsKept (k : Span KeeperSeen) (result : Result (Unit {0}) ExitReason) (put : List ℕ)
     : Type 0 where
   pub left : IsLeft k.before k.after
@@ -99,34 +98,34 @@ pub record IsKept (k : Span KeeperSeen) (result : Result (Unit {0}) ExitReason) 
       ⊎ (result ≡ Err exits.Memory)
   pub no_out : put ≡ []
 
--- an attached store was brought to the second application, all or nothing
+-- A store that was attached was upgraded to the second application, all or nothing.
 abbrev pub EndsReshaping : Application → Application → Span SinkSeen → Span KeeperSeen
     → Result (Unit {0}) ExitReason → List ℕ → Type 0
 EndsReshaping old new out k result put =
     IsReported old new out k result put ⊎ IsKept k result put
 
--- a store was attached for the first application, and then brought to the second
+-- A store was attached for the first application, and then upgraded to the second.
 pub record IsMoved (db : Option (List ℕ)) (old new : Application) (out : Span SinkSeen)
     (k : Span KeeperSeen) (result : Result (Unit {0}) ExitReason) (put : List ℕ) : Type 0 where
   pub opened : KeeperSeen
   pub attached : AttachesAs db old (span k.before opened) (Ok tt)
   pub ends : EndsReshaping old new out (span opened k.after) result put
 
--- how the steps from the attaching on end
+-- How the steps from the attachment on end.
 abbrev pub EndsMoving : Option (List ℕ) → Application → Application → Span SinkSeen
     → Span KeeperSeen → Result (Unit {0}) ExitReason → List ℕ → Type 0
 EndsMoving db old new out k result put =
     IsStoreUnmoved db old k result put ⊎ IsMoved db old new out k result put
 
--- how the steps after both files end: the store is attached where the second application extends
--- the first
+-- How the steps after both files end. The store is attached only if the second application extends
+-- the first.
 abbrev pub EndsUpgrading : Option (List ℕ) → Application → Application → Span SinkSeen
     → Span KeeperSeen → Result (Unit {0}) ExitReason → List ℕ → Type 0
 EndsUpgrading db old new out k result put =
     IsLacking old new k result put
     ⊎ ((models_lack 0 old.models new.models ≡ None) × EndsMoving db old new out k result put)
 
--- both applications were read; the audit was left alone
+-- Both applications were read. The audit was left alone.
 pub record IsUpgrading (seen : Sight) (command : Command) (result : Result (Unit {0}) ExitReason)
     (out_bytes audit_bytes : List ℕ) : Type 0 where
   pub old : Application
@@ -137,7 +136,7 @@ pub record IsUpgrading (seen : Sight) (command : Command) (result : Result (Unit
   pub unaimed : IsTrue seen.audit.after.tells → seen.audit.after.aims ≡ seen.audit.before.aims
   pub ends : EndsUpgrading (db_of command) old new seen.out seen.keeper result out_bytes
 
--- what the steps of an upgrade put, and why they ended
+-- What the steps of an upgrade put, and why they ended.
 abbrev pub EndsUpgrade : Sight → Command → Result (Unit {0}) ExitReason → List ℕ → List ℕ → Type 0
 EndsUpgrade seen command result out audit =
     IsEndedEarly seen command result out audit ⊎ IsUpgrading seen command result out audit

@@ -1,4 +1,4 @@
-//! The tables of a store, as they look where some labels are shown.
+//! Prints the tables of a store, as they look if some labels are shown.
 ghost use Rattle.std.specs.Prelude.{◌≡◌, ◌≤◌, ◌+◌, ◌++◌, [], length, map, if◌then◌else◌, IfOk, IsOk, OnOk, IsErrOf, IsTrue, codes, false};
 ghost use Rattle.jac_io.specs.Faults.{Rose};
 ghost use Rattle.jac_world.specs.World.{shown_by, holds};
@@ -26,8 +26,8 @@ use jac_value::{Bytes, Memory, Value, escape_line};
 use jac_world::Assignment;
 use std::alloc::Global;
 
-/// The steps of a dump: the application, the store, and a line for each record as an assignment
-/// with these labels shows it.
+/// The steps of a dump. They read the application, attach the store, and write a line for each
+/// record that is visible if these labels are shown.
 pub fn dump<F: Files, O: Sink, U: AuditSink, K: Vault>(
     alloc: Global,
     command: &DumpArgs,
@@ -113,7 +113,7 @@ fn push_number(text: &mut Vec<u8>, number: u64) -> Result<(), Memory>
     Ok(())
 }
 
-// The tables of all models, one after another.
+// Appends the tables of all models, one after another.
 fn push_tables<K: Vault>(
     alloc: Global,
     text: &mut Vec<u8>,
@@ -140,7 +140,7 @@ fn push_tables<K: Vault>(
     Ok(())
 }
 
-// The table of the model at this place.
+// Appends the table of the model at this place.
 fn push_model<K: Vault>(
     alloc: Global,
     text: &mut Vec<u8>,
@@ -162,7 +162,7 @@ fn push_model<K: Vault>(
     Ok(())
 }
 
-// The rows whose guard holds.
+// Appends the rows whose guard holds.
 fn push_rows(
     alloc: Global,
     text: &mut Vec<u8>,
@@ -179,7 +179,7 @@ fn push_rows(
     Ok(())
 }
 
-// The row, if its guard holds.
+// Appends the row, if its guard holds.
 fn push_row(
     alloc: Global,
     text: &mut Vec<u8>,
@@ -211,7 +211,7 @@ fn push_record(alloc: Global, text: &mut Vec<u8>, model: &ModelDef, row: &Row) -
     Ok(())
 }
 
-// Each field with its value.
+// Appends each field with its value.
 fn push_cells(
     alloc: Global,
     text: &mut Vec<u8>,

@@ -34,9 +34,9 @@ use jac_world::{Assignment, Label, Steps};
 use std::alloc::Global;
 use std::sync::ledger::Ledger;
 
-/// The steps of a `why`: the application, the store, the labels that the viewer is shown, and a
-/// line for each other live label, with what keeps it hidden. Each of these answers is tested
-/// once more before its line is made.
+/// The steps of a `why`. They read the application, attach the store, and write the labels that the
+/// viewer is shown, and a line for each other live label with what keeps it hidden. Each of these
+/// explanations is tested once more before its line is made.
 pub fn explain<F: Files, O: Sink, U: AuditSink, K: Vault, M: Ledger>(
     alloc: Global,
     command: &WhyArgs,
@@ -70,7 +70,7 @@ pub fn explain<F: Files, O: Sink, U: AuditSink, K: Vault, M: Ledger>(
     )
 }
 
-// Who asks: nobody, where the number is no id of the viewer's model.
+// The viewer: nobody if the number is no id of the viewer's model.
 fn asker_of(app: &App, number: Option<u128>) -> Option<Id>
     ensures { result ≡ asker_of (application_of app.now) number }
 {
@@ -113,7 +113,7 @@ fn put_text<O: Sink>(out: &mut O, text: &Bytes) -> Result<(), Failed>
     put(out, text.as_slice())
 }
 
-// The lines of a store.
+// The lines for a store.
 fn store_text<K: Vault, M: Ledger>(
     alloc: Global,
     app: &App,
@@ -136,7 +136,7 @@ fn store_text<K: Vault, M: Ledger>(
     Ok(text)
 }
 
-// The lines of a state: what is shown, and what stands against each other live label.
+// The lines for a state: what is shown, and what prevents each other live label.
 fn state_lines<K: Keeper, M: Ledger>(
     work: &mut Work<'_, K>,
     app: &App,
@@ -156,7 +156,7 @@ fn state_lines<K: Keeper, M: Ledger>(
     Ok(text)
 }
 
-// What is shown, and what stands against each other one of the labels.
+// What is shown, and what prevents each other one of the labels.
 fn shown_lines<K: Keeper, M: Ledger>(
     work: &mut Work<'_, K>,
     app: &App,
@@ -184,7 +184,7 @@ fn shown_lines<K: Keeper, M: Ledger>(
     Ok(text)
 }
 
-// A line for each answer that stands the test.
+// A line for each explanation that passes the test.
 fn checked_lines<K: Keeper, M: Ledger>(
     work: &mut Work<'_, K>,
     context: &ViewerContext<'_>,
@@ -224,7 +224,7 @@ fn push_checked<K: Keeper, M: Ledger>(
     Ok(())
 }
 
-// The line of an answer that stands the test.
+// Appends the line of an explanation, if it passes the test.
 fn push_if_standing<K: Keeper, M: Ledger>(
     work: &mut Work<'_, K>,
     context: &ViewerContext<'_>,
@@ -256,7 +256,7 @@ fn push_shown(text: &mut Vec<u8>, shown: &Assignment) -> Result<(), Memory>
     Ok(())
 }
 
-// The labels, joined by commas.
+// Appends the labels, joined by commas, or `-` if there are none.
 fn push_labels(text: &mut Vec<u8>, labels: &[Label]) -> Result<(), Memory>
     ensures { OnOk result (text.new.items ≡ text.old.items ++ labels_text labels.now) }
 {
@@ -280,7 +280,7 @@ fn push_more(text: &mut Vec<u8>, labels: &[Label]) -> Result<(), Memory>
     Ok(())
 }
 
-// `LABEL MODEL ID GROUP because LABEL MODEL ID GROUP`.
+// Appends `LABEL MODEL ID GROUP because LABEL MODEL ID GROUP` and a line feed.
 fn push_why(text: &mut Vec<u8>, models: &[ModelDef], why: &Explanation) -> Result<(), Memory>
     ensures { OnOk result
         (text.new.items ≡ text.old.items ++ why_line (entities_of models.now) why.now) }
@@ -293,7 +293,7 @@ fn push_why(text: &mut Vec<u8>, models: &[ModelDef], why: &Explanation) -> Resul
     Ok(())
 }
 
-// `LABEL MODEL ID GROUP`.
+// Appends `LABEL MODEL ID GROUP`.
 fn push_reason(text: &mut Vec<u8>, models: &[ModelDef], reason: &Reason) -> Result<(), Memory>
     ensures { OnOk result
         (text.new.items ≡ text.old.items ++ reason_text (entities_of models.now) reason.now) }

@@ -1,4 +1,4 @@
-//! The commands on a store that serve nobody.
+//! The commands that answer no requests: `dump`, `why` and `upgrade`.
 #![tactic(auto)]
 
 mod dump_command;

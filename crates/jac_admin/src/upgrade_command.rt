@@ -1,4 +1,4 @@
-//! A store is brought from one application to the next.
+//! Upgrades a store from one application to the next.
 ghost use Rattle.std.specs.Prelude.{◌≡◌, ◌⊎◌, ◌++◌, ◌∷◌, [], None, Some, slice_get, IfOk, IsOk, IsErrOf, IsTrue, OnErr, codes, decimal, false};
 ghost use Rattle.jac_io.specs.Faults.{Rose};
 ghost use Rattle.jac_lang.specs.Lookup.{fields_at};
@@ -31,8 +31,8 @@ use jac_world::Steps;
 use std::alloc::Global;
 use std::sync::ledger::Ledger;
 
-/// The steps of an upgrade: both applications, whether the second extends the first, the store, the
-/// change that brings its records to the second, and how many they are.
+/// The steps of an upgrade. They read both applications, check whether the second extends the
+/// first, attach the store, upgrade its records to the second, and write how many they are.
 pub fn upgrade<F: Files, O: Sink, U: AuditSink, K: Vault, L: Ledger>(
     alloc: Global,
     command: &UpgradeArgs,
@@ -67,7 +67,7 @@ pub fn upgrade<F: Files, O: Sink, U: AuditSink, K: Vault, L: Ledger>(
     upgrade_store(alloc, &old, &new, &command.db, out, vault, splits)
 }
 
-// Brings the store to the second application, where that extends the first.
+// Upgrades the store to the second application, if that extends the first.
 fn upgrade_store<O: Sink, K: Vault, L: Ledger>(
     alloc: Global,
     old: &Service,
@@ -178,7 +178,7 @@ fn field_name(fields: &[Field], field: u8) -> &str
     }
 }
 
-// Attaches the store for the first application, and brings it to the second.
+// Attaches the store for the first application, and upgrades it to the second.
 fn move_store<O: Sink, K: Vault, L: Ledger>(
     alloc: Global,
     old: &Service,
@@ -207,7 +207,7 @@ fn move_store<O: Sink, K: Vault, L: Ledger>(
     }
 }
 
-// Brings the attached store to the second application, and puts how many records it has.
+// Upgrades the attached store to the second application, and puts the number of its records.
 fn move_attached<O: Sink, K: Vault, L: Ledger>(
     alloc: Global,
     old: &Service,
@@ -237,7 +237,7 @@ fn move_attached<O: Sink, K: Vault, L: Ledger>(
     }
 }
 
-// Puts how many records there are; it takes no memory.
+// Puts the number of records. It needs no memory.
 fn put_upgraded<O: Sink>(out: &mut O, count: usize) -> Result<(), Failed>
     ensures { IsPut (span (O.seen out.old) (O.seen out.new)) (upgraded_line count) result }
 {
@@ -246,8 +246,8 @@ fn put_upgraded<O: Sink>(out: &mut O, count: usize) -> Result<(), Failed>
     put_three(out, b"upgraded ", digits.as_bytes(), b" records\n")
 }
 
-// The change that brings each record to the second application is made, and then applied under its
-// schema.
+// Makes the change that upgrades each record to the second application, and applies it under the
+// new schema.
 fn move_records<K: Vault, L: Ledger>(
     alloc: Global,
     old: &Service,

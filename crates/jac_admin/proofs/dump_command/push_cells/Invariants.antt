@@ -2,7 +2,7 @@ use Rattle.std.proofs.Common.{◌≡◌, ◌++◌, length}
 use Rattle.jac_admin.specs.Dump.{cells_text}
 use Rattle.jac_admin.proofs.dump_command.push_cells.Given as goal
 
--- the text so far, before that of the cells left, is that of all
+-- The text so far, followed by that of the cells left, is the result.
 abbrev pub invariant-cells : goal.invariant-cells
 invariant-cells l = l.text.items ++ cells_text l.fields l.values ≡ l.fn.text.items ++ cells_text l.fn.fields l.fn.values
 
