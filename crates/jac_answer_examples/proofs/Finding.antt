@@ -17,7 +17,7 @@ use Rattle.jac_replies.specs.declared.answer.Ask.{Ask}
 use Rattle.jac_engine.specs.Answers.{IsAnswerBy, IsAnswerTo, HasForm, HasFormBy}
 use Rattle.jac_answer_examples.specs.Served.{served_diary}
 
--- the pair of the path
+-- The parameter in the path.
 abbrev pub path_pair : List Pair
 path_pair = record { name = codes "e"; value = codes "8194" } ∷ []
 
@@ -25,7 +25,7 @@ number_read : part_text (codes "8194") ≡ codes "8194"
 unfolding percent_decode utf8_lossy utf8_valid_len is_utf8 chars encode
 number_read = refl
 
--- the view of this place is found, whatever the number in the path is read as
+-- The view at this place is found, whatever number the path has.
 viewed : (n : ℕ) → founds.View n (record { name = codes "e"; value = part_text (codes "8194") } ∷ []) ≡ founds.View n path_pair
 viewed n = ap (λ (v : List ℕ). founds.View n (record { name = codes "e"; value = v } ∷ [])) number_read
 
@@ -69,7 +69,7 @@ pub events_post : found served_diary (codes "POST") (codes "/events") ≡ founds
 unfolding scan seek param_step
 events_post = refl
 
--- an answer by what is found
+-- An answer by what the request finds.
 
 pub answers : (lazy : Bool) (worlds : Worlds) (ask : Ask) (answer : Answer) (f : Found) → found served_diary ask.method ask.path ≡ f
     → IsAnswerBy lazy f served_diary worlds ask answer → IsAnswerTo lazy served_diary worlds ask answer

@@ -13,7 +13,7 @@ use Rattle.jac_semantics_examples.specs.Diary.{diary_app, diary_with, event_row}
 use Rattle.jac_semantics_examples.proofs.Diaries.{two_shown, live_with}
 use Rattle.jac_answer_examples.specs.Served.{served_diary, opened_diary}
 
--- what is live, and so what is settled, depends on the models and the tables alone
+-- Which labels are live, and so which are settled, depends only on the models and the tables.
 
 as_diary : (worlds : Worlds) (n k : ℕ) → IsLiveLabel served_diary (λ w. record (worlds w) { number = n }) k → IsLiveLabel diary_app worlds k
 as_diary worlds n k live = record { group = live.group; seen_by = live.seen_by; stands = live.stands }
@@ -43,7 +43,7 @@ unserved worlds n viewer labels s = record {
       record { label = f.label; is_shown = f.is_shown; forbidden = f.forbidden };
 }
 
--- once the event is open
+-- After the event is opened.
 
 abbrev opened_event : (ℕ → Bool) → PlainRow
 opened_event w = event_row (if w 65552 then codes "dentist" else codes "private") (Some 4096) true (if w 65553 then codes "clinic" else codes "with 4096")
@@ -70,7 +70,7 @@ guest_settled_after = record {
 pub opened_settled : IsSettled served_diary opened_diary (Some 4160) (65552 ∷ 65553 ∷ [])
 opened_settled = served (λ w. diary_with (opened_event w)) 4 (Some 4160) (65552 ∷ 65553 ∷ []) guest_settled_after
 
--- the title is lacking, which everybody may see then
+-- The title's label is missing, although everybody may see the title then.
 pub opened_lacks_title : IsSettled served_diary opened_diary (Some 4160) (65553 ∷ []) → ⊥
 opened_lacks_title s =
     let f = s.full 65552 (as_served (λ w. diary_with (opened_event w)) 4 65552 title_lives) refl in
@@ -79,7 +79,7 @@ opened_lacks_title s =
     (two_shown (λ j. is_allowed diary_app (diary_with (opened_event (with_label 65552 (shown_by (65553 ∷ []))))) (Some 4160) j ≡ true) 65552 65553 f.label refl refl f.is_shown)
     ∙ f.forbidden)
 
--- the labels of a page are those that the answer shows
+-- The labels of a page are those that the answer shows.
 
 pub labels_of : (answer : Answer) (labels expected : List ℕ) (it : Page) → answer ≡ page_answer labels it → answer.shown ≡ Some expected → labels ≡ expected
 labels_of answer labels expected it made shown = same_Some labels expected (sym (ap (λ (a : Answer). a.shown) made) ∙ shown)

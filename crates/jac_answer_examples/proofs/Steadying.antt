@@ -56,7 +56,7 @@ guest_steady_of_both = record {
       (λ h. absurd (true≢false h)) consulted hidden;
 }
 
--- the labels of a lazy page, and those that it consulted, are those that the answer tells
+-- The answer has the labels of a lazy page and the labels that it consulted.
 
 made_itself : (app : Application) (worlds : Worlds) (visit : Visit) (answer : Answer) → (p : IsLazyPage app worlds visit answer)
     → answer ≡ lazy_answer p.labels p.consulted (page (shown_by p.labels) app (worlds (shown_by p.labels)) visit)

@@ -4,8 +4,8 @@ ghost use Rattle.jac_engine.specs.Answers.{HasForm, world_left, is_stored, store
 ghost use Rattle.jac_semantics_examples.specs.Diary.{guarded_diary};
 ghost use Rattle.jac_answer_examples.specs.Served.{served_diary, asks_path, asks_of_event, shows, shows_lazily, opened_diary};
 
-/// What an answer leaves of each world, and whether a change comes with it: with the page of a
-/// `POST` alone.
+/// What an answer leaves of each world, and whether it comes with a change. Only the page of a
+/// `POST` does.
 pub fn leaves_worlds()
     ensures opened { (w : ℕ → Bool) → world_left w served_diary
         (asks_of_event (Some 4160) (codes "POST")) (shows (65552 ∷ 65553 ∷ []) (codes "dentist"))
@@ -36,8 +36,8 @@ pub fn leaves_worlds()
     ensures no_method { stores served_diary (asks_of_event None (codes "PUT")) ≡ false }
 {}
 
-/// What is known of an answer where nothing is known of the worlds: a page has labels that rise, a
-/// refusal its cause.
+/// What is known of an answer if nothing is known of the worlds: a page has labels that rise, and a
+/// refusal has its cause.
 pub fn tells_forms()
     ensures page { HasForm false served_diary (asks_of_event None (codes "GET"))
         (shows (1 ∷ 5 ∷ []) (codes "any")) }

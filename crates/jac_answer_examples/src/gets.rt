@@ -4,9 +4,9 @@ ghost use Rattle.jac_engine.specs.Answers.{IsAnswerTo};
 ghost use Rattle.jac_semantics_examples.specs.Diary.{guarded_diary};
 ghost use Rattle.jac_answer_examples.specs.Served.{served_diary, asks_of_event, shows, shows_lazily};
 
-/// A `GET`'s page is the interpreter's under labels that are settled for who asks, and tells no
-/// other labels than those; `HEAD` is answered as `GET`. A parameter in the path counts before one
-/// of the query.
+/// The page of a `GET` is the interpreter's page under labels that are settled for the viewer, and
+/// it names only those labels. `HEAD` is answered as `GET`. A parameter in the path takes
+/// precedence over one in the query string.
 pub fn answers_gets()
     ensures host { IsAnswerTo false served_diary guarded_diary
         (asks_of_event (Some 4096) (codes "GET"))

@@ -3,8 +3,8 @@ ghost use Rattle.jac_engine.specs.Answers.{IsAnswerTo};
 ghost use Rattle.jac_semantics_examples.specs.Diary.{guarded_diary};
 ghost use Rattle.jac_answer_examples.specs.Served.{served_diary, asks_of_event, asks_of_place, shows, shows_lazily};
 
-/// Lazily, a `GET`'s page tells what was consulted: its labels are steady, and it is the
-/// interpreter's page whatever else is shown. A `POST` is answered as otherwise.
+/// With `--lazy`, the page of a `GET` names the labels that were consulted. Its labels are steady,
+/// and it is the interpreter's page whatever else is shown. A `POST` is answered as without it.
 pub fn answers_lazily()
     ensures place { IsAnswerTo true served_diary guarded_diary (asks_of_place (Some 4160))
         (shows_lazily (65553 ∷ []) (65553 ∷ []) (codes "clinic")) }

@@ -1,5 +1,4 @@
-//! Examples of what answers a request: of which answers it may be said, and of which it may not.
-//! They are laws without a body, and no program calls them.
+//! Examples of right and wrong answers to requests: laws without a body, which no program calls.
 #![tactic(auto)]
 
 mod forms;

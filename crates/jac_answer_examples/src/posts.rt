@@ -4,9 +4,9 @@ ghost use Rattle.jac_engine.specs.Answers.{IsAnswerTo};
 ghost use Rattle.jac_semantics_examples.specs.Diary.{guarded_diary};
 ghost use Rattle.jac_answer_examples.specs.Served.{served_diary, asks_path, asks_of_event, shows, sends_to, used_up_diary};
 
-/// A `POST`'s page is that of the world before it, under labels that are settled in the worlds
-/// after it: once a guest opens the event its title is shown. Where no number is left it is
-/// refused, and only there.
+/// The page of a `POST` is made in the world before it, under labels that are settled in the worlds
+/// after it: after a guest opens the event, its title is shown. The `POST` is refused if no number
+/// is left, and only then.
 pub fn answers_posts()
     ensures opened { IsAnswerTo false served_diary guarded_diary
         (asks_of_event (Some 4160) (codes "POST"))

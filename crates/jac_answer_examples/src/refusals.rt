@@ -4,8 +4,8 @@ ghost use Rattle.jac_engine.specs.Answers.{IsAnswerTo};
 ghost use Rattle.jac_semantics_examples.specs.Diary.{guarded_diary};
 ghost use Rattle.jac_answer_examples.specs.Served.{served_diary, asks_path, asks_of_event, shows};
 
-/// A path without a view has the status 404, and a method that its views don't have 405, with those
-/// that they have.
+/// A path without a view gets the status 404. A method that the path's views don't have gets 405,
+/// with the methods that they have.
 pub fn refuses()
     ensures no_view { IsAnswerTo false served_diary guarded_diary
         (asks_path None (codes "GET") (codes "/events")) (refusal 404 None) }

@@ -45,7 +45,7 @@ returns-clause-no_method c =
     formed false (asks_path None (codes "GET") (codes "/away")) (refusal 405 (Some (codes "POST"))) _ away_get
     refl
 
--- labels that fall are those of no page
+-- No page has labels that fall.
 
 fallen : (labels : List ℕ) → Some labels ≡ Some (5 ∷ 1 ∷ []) → IsAscending labels → ⊥
 fallen labels told rising =

@@ -54,7 +54,7 @@ returns-clause-not_lazily c answer =
     let p = answered true guarded_diary (asks_of_place (Some 4160)) (shows (65553 ∷ []) (codes "clinic")) _ place_get answer in
     true≢false (sym (ap (λ (a : Answer). is_some a.consulted) (p.made (shown_by p.labels) (record { each = λ k s. refl }))))
 
--- under all labels the page is another one
+-- Under all labels the page is another one.
 
 pub returns-clause-none_consulted : goal.returns-clause-none_consulted
 returns-clause-none_consulted c answer =
@@ -71,7 +71,7 @@ returns-clause-forbidden c answer =
     let both = shown_by (65552 ∷ 65553 ∷ []) in
     true≢false (sym ((steady.allowed 65552 refl).each both (alike_itself (65552 ∷ 65553 ∷ []) both)))
 
--- the place may be added
+-- The place's label can be added.
 
 pub returns-clause-lacking : goal.returns-clause-lacking
 returns-clause-lacking c answer =
