@@ -1,4 +1,4 @@
--- An attached store is one that an application's requests may start from.
+-- An application's requests may start from a store that was attached for it.
 use Rattle.std.proofs.Common.{IsTrue, Result, Ok, Err, OnOk, Option, List, ℕ}
 use Rattle.jac_lang.specs.Syntax.{Application}
 use Rattle.jac_keep.specs.KeeperSeen.{KeeperSeen}

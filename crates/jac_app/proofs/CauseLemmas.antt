@@ -1,4 +1,4 @@
--- Each status of a run comes for its cause.
+-- The cause of each status of a run.
 use Rattle.std.proofs.Common.{Bool, false, is_some, IsTrue, arith, ◌≡◌, ◌≤◌, sym, subst, refl, ℕ, ◌∙◌, ◌⊎◌, inl, inr, Result, Ok, Err, Option, Some, None, List}
 use Rattle.jac_io.specs.Linked.{LinkSeen, DoorSeen}
 use Rattle.jac_io.specs.Seen.{SinkSeen}
@@ -50,7 +50,7 @@ pub none_there : IsTrue false → ⊥
 none_there is = cc
 
 module _ {L : Type 0} (line : L → LinkSeen) (seen : Sight) (door : Span (DoorSeen L)) (counts : Span RunCounts) (words : List (List ℕ)) where
-  -- the line of a status was put, or that put failed
+  -- The line of a status was put, or that put failed.
   cause_of_closing : (sink : Span SinkSeen) → (Rose sink.before.faults sink.after.faults → Rose seen.out.before.faults seen.out.after.faults)
       → (line : List ℕ) (status : Status) (put : List ℕ) (answer : Status)
       → ComesFor seen door words status → Closes sink line status put answer → ComesFor seen door words answer
@@ -74,7 +74,7 @@ module _ {L : Type 0} (line : L → LinkSeen) (seen : Sight) (door : Span (DoorS
   cause_of_opening command exits.DoorFault source next is h = absurd h
   cause_of_opening command (exits.OtherStore stored wanted) source next is h = absurd h
 
-  -- the cause of an ending after the files
+  -- The cause of an end after the files were read.
   cause_of_serving : (command : Command) (app : Application) (sessions : List Session) (events out audit : List ℕ) (exit_reason : ExitReason)
       → (HasApplication seen command app → Sources seen command app) → command_of words ≡ Some command → IsOpened seen command app sessions events
       → EndsServing (sinks_of seen) command app sessions (held_of seen counts) (script_of events) (Err exit_reason) out audit → ComesFor seen door words (status_of exit_reason)
@@ -108,7 +108,7 @@ module _ {L : Type 0} (line : L → LinkSeen) (seen : Sight) (door : Span (DoorS
   cause_of_text text out (exits.LineRefused event_fault) h = absurd h
   cause_of_text text out (exits.SessionsRefused line) h = absurd h
 
-  -- the causes of a demo's endings
+  -- The causes for which a demo ends.
   cause_of_uncounted : (n : ℕ) (out audit : List ℕ) (exit_reason : ExitReason)
       → command_of words ≡ Some (commands.Demo n) → IsUnopened calendar_text exit_reason → ComesFor seen door words (status_of exit_reason)
   cause_of_uncounted n out audit exit_reason is (inl h) =
@@ -148,7 +148,7 @@ module _ {L : Type 0} (line : L → LinkSeen) (seen : Sight) (door : Span (DoorS
   cause_of_counting n app out audit exit_reason is calendar (inr h) =
       cause_of_told n app h.1.ended out audit exit_reason is calendar h.1.ends (λ failed. inr (h.1.rose failed)) h.1.told
 
-  -- the cause of an ending after the application, which a store was attached for
+  -- The cause of an end after the application was read, for which a store was attached.
   cause_of_dumping : (command : Command) (app : Application) (w : ℕ → Bool) (put : List ℕ) (exit_reason : ExitReason)
       → command_of words ≡ Some command → Sources seen command app → EndsDumping (db_of command) app w seen.out seen.keeper (Err exit_reason) put → ComesFor seen door words (status_of exit_reason)
   cause_of_dumping command app w put exits.WriteFault is source h = inl h.ends.puts.1
@@ -165,7 +165,7 @@ module _ {L : Type 0} (line : L → LinkSeen) (seen : Sight) (door : Span (DoorS
   cause_of_dumping command app w put (exits.LineRefused event_fault) is source h = absurd h.ends.puts
   cause_of_dumping command app w put (exits.SessionsRefused line) is source h = absurd h.ends.puts
 
-  -- the cause of an ending after the audit's aim, where a door is served
+  -- The cause of an end after the audit was aimed, if a door is served.
   cause_of_aimed : (serving : ServeArgs) (app : Application) (sessions : List Session) (out audit : List ℕ) (exit_reason : ExitReason)
       → command_of words ≡ Some (commands.Serve serving) → HasApplication seen (commands.Serve serving) app
       → EndsAimed line (sinks_of seen) app sessions serving door (held_of seen counts) (Err exit_reason) out audit → ComesFor seen door words (status_of exit_reason)
@@ -184,7 +184,7 @@ module _ {L : Type 0} (line : L → LinkSeen) (seen : Sight) (door : Span (DoorS
   cause_of_aimed serving app sessions out audit (exits.LineRefused event_fault) is had h = absurd h.1.ends.ends
   cause_of_aimed serving app sessions out audit (exits.SessionsRefused n) is had h = absurd h.1.ends.ends
 
-  -- the causes of an upgrade's endings
+  -- The causes for which an upgrade ends.
   caused_so : (exit_reason cause : ExitReason) → ◌≡◌ {A = Result (Unit {0}) ExitReason} (Err exit_reason) (Err cause) → ComesFor seen door words (status_of cause) → ComesFor seen door words (status_of exit_reason)
   caused_so exit_reason cause same h = subst (λ (e : ExitReason). ComesFor seen door words (status_of e)) (sym (same_exit_reason exit_reason cause same)) h
 
@@ -219,7 +219,7 @@ module _ {L : Type 0} (line : L → LinkSeen) (seen : Sight) (door : Span (DoorS
   cause_of_moving command old new put exit_reason is source (inr h) =
       cause_of_reshaping old new (span h.opened seen.keeper.after) put exit_reason (λ rose. Rose-widen _ _ _ _ h.attached.0.later (omega arith) rose) h.ends
 
-  -- the causes of the endings of a `why`
+  -- The causes for which a `why` ends.
   cause_of_explained : (app : Application) (viewer : Option ℕ) (k : Span KeeperSeen) (put : List ℕ) (exit_reason : ExitReason)
       → (Rose k.before.faults k.after.faults → Rose seen.keeper.before.faults seen.keeper.after.faults) → EndsExplained app viewer seen.out k (Err exit_reason) put → ComesFor seen door words (status_of exit_reason)
   cause_of_explained app viewer k put exit_reason rose (inl h) = cause_of_text h.text put exit_reason h.puts
@@ -267,7 +267,7 @@ module _ {L : Type 0} (line : L → LinkSeen) (seen : Sight) (door : Span (DoorS
       cause_of_explaining (commands.Why explaining) h.app (asker_in (commands.Why explaining) h.app) out exit_reason is h.application h.ends
   cause_of_exit_reason (commands.Upgrade upgrading) out audit exit_reason is (inr h, uncalled) = cause_of_upgrading upgrading h.old h.new out exit_reason is h.application h.next h.ends
 
--- and where the line of the status was put after the steps
+-- The cause after the line of the status was put.
 module _ {L : Type 0} (line : L → LinkSeen) (seen : Sight) (door : Span (DoorSeen L)) (counts : Span RunCounts) (words : List (List ℕ)) where
   cause_of_finish : (standing : SinkSeen) → seen.out.before.faults ≤ standing.faults → standing.faults ≤ seen.out.after.faults
       → (command : Command) (out audit : List ℕ) (ended : Result (Unit {0}) ExitReason) (last : List ℕ) (answer : Status)
@@ -280,7 +280,7 @@ module _ {L : Type 0} (line : L → LinkSeen) (seen : Sight) (door : Span (DoorS
       (comes_later (standing_at seen standing) seen.out.after later door words (status_of exit_reason)
       (cause_of_exit_reason line (standing_at seen standing) door counts words command out audit exit_reason is ends)) h
 
-  -- each status comes for its cause
+  -- Each status has its cause.
   pub comes_for : (answer : Status) (out audit : List ℕ) → Runs line seen door counts words answer out audit → ComesFor seen door words answer
   comes_for answer out audit (inl r) =
       cause_of_finish r.standing r.earlier r.later r.command r.served audit r.ended r.last answer r.is_command r.ends r.finishes
@@ -289,12 +289,12 @@ module _ {L : Type 0} (line : L → LinkSeen) (seen : Sight) (door : Span (DoorS
   comes_for answer out audit (inr (inr r)) =
       cause_of_closing line seen door counts words seen.out (λ rose. rose) _ statuses.Memory out answer tt r.closes
 
--- what is stored is known to have another schema
+-- The stored schema is known to differ.
 not_other : (stored wanted : List ℕ) (schema : Option (List ℕ)) → schema ≡ Some stored → (schema ≡ None) ⊎ (schema ≡ Some wanted) → ¬ (stored ≡ wanted) → ⊥
 not_other stored wanted schema is (inl none) differs = let bad = sym is ∙ none in cc
 not_other stored wanted schema is (inr some) differs = differs (some_same _ _ (sym is ∙ some))
 
--- where the store can be attached, no status comes for it
+-- If the store can be attached, the status isn't one of the store.
 pub is_attached_so : {L : Type 0} (seen : Sight) (door : Span (DoorSeen L)) (words : List (List ℕ)) (status : Status) → ComesFor seen door words status
     → CanAttach seen words → ¬ (status ≡ statuses.StoreFault) × ¬ (status ≡ statuses.OtherStore)
 is_attached_so seen door words status cause can = (

@@ -1,4 +1,4 @@
--- Where nothing is missing and nothing fails, all is done.
+-- If nothing is missing and nothing fails, everything is done.
 use Rattle.std.proofs.Common.{Bool, true, false, is_none, ◌≡◌, ◌∙◌, ap, sym, subst, refl, ℕ, ◌≤◌, ◌<◌, ◌⊎◌, inl, inr, is_some, IsTrue, IsSomeAnd, Result, Ok, Err, Option, Some, None, List, length, arith}
 use Rattle.jac_io.specs.Faults.{Rose}
 use Rattle.jac_io.specs.Seen.{FilesSeen, SinkSeen}
@@ -46,7 +46,7 @@ use Rattle.jac_serve_events.proofs.ProgressLemmas.{puts_torn_failed}
 use Rattle.jac_app_load.proofs.OpeningLemmas.{some_same}
 use Rattle.jac_serve_events.proofs.OutsideLemmas.{Rose-widen, failed_later}
 
--- a file that was read is the one that is there
+-- The bytes that were read from a file are those that it has.
 same_bytes : (seen : Sight) (command : Command) (role : Role) (there bytes : List ℕ)
     → IsTrue seen.files.after.tells → seen.files.before.file (name_of command role) ≡ Some there → IsRead seen command role bytes → bytes ≡ there
 same_bytes seen command role there bytes told file read = some_same _ _ (sym (read.told told) ∙ file)
@@ -57,7 +57,7 @@ not_long seen command role there told file short long =
     let more : limit_of role < length there = subst (λ (o : Option (List ℕ)). IsSomeAnd o (λ bytes. limit_of role < length bytes)) file (long told) in
     omega arith
 
--- no line is refused of sessions that can be had
+-- If sessions can be read, no line of theirs is refused.
 no_bad_line : (files : Span FilesSeen) (name : Option (List ℕ)) (line : ℕ) → IsTrue files.after.tells → CanHaveSessions files.before name → HasBadLine files name line → ⊥
 no_bad_line files None line told can bad = bad
 no_bad_line files (Some name) line told can bad =
@@ -65,7 +65,7 @@ no_bad_line files (Some name) line told can bad =
     let ok = sym can.4 ∙ ap sessions_in (sym same) ∙ bad.2 in
     cc
 
--- nor is their file too long
+-- Their file isn't too long either.
 not_long_named : (files : Span FilesSeen) (name : Option (List ℕ)) → IsTrue (is_some name) → CanHaveSessions files.before name
     → IsSomeAnd (files.before.file (name_or_empty name)) (λ bytes. 1048576 < length bytes) → ⊥
 not_long_named files None is can long = cc
@@ -73,7 +73,7 @@ not_long_named files (Some name) is can long =
     let more : 1048576 < length can.0 = subst (λ (o : Option (List ℕ)). IsSomeAnd o (λ bytes. 1048576 < length bytes)) can.2 long in
     omega (arith, more, can.3)
 
--- where an application can be opened, only memory ends the opening
+-- If an application can be opened, only a lack of memory ends the opening.
 module _ (seen : Sight) (command : Command) (app : Application) (can : CanOpen seen command app) where
   no_opening_fault : (exit_reason : ExitReason) → EndsOpening seen command exit_reason
       → ((role : Role) → IsReached seen command role → IsLong seen command role → ⊥) → ((line : ℕ) → HasBadLine seen.files (file_of command roles.Sessions) line → ⊥)
@@ -97,7 +97,7 @@ module _ (seen : Sight) (command : Command) (app : Application) (can : CanOpen s
   app_not_long : IsLong seen command roles.App → ⊥
   app_not_long long = not_long seen command roles.App can.bytes can.told can.file can.application.1.short long
 
--- what fails until out stands so fails until the end
+-- What fails up to this state of `out` fails in the whole run.
 standing_fault : (seen : Sight) (standing : SinkSeen) → standing.faults ≤ seen.out.after.faults → AWriteFailed (sinks_of (standing_at seen standing)) → AWriteFailed (sinks_of seen)
 standing_fault seen standing later failed = failed_later (sinks_of seen) (sinks_of (standing_at seen standing)) (omega arith) (omega arith) later (omega arith) failed
 
@@ -112,7 +112,7 @@ can_open_standing seen standing later command app can = record {
   no_write_fault = λ failed. can.no_write_fault (standing_fault seen standing later failed);
 }
 
--- a command of which no put fails has a status that is done, want of memory or that of an ending of its steps
+-- If no put of a command fails, its status is `Done`, `Memory` or that of an end of its steps.
 module _ {L : Type 0} (line : L → LinkSeen) (seen : Sight) (door : Span (DoorSeen L)) (counts : Span RunCounts) (words : List (List ℕ)) (command : Command) (is_command : command_of words ≡ Some command)
     (no_write_fault : AWriteFailed (sinks_of seen) → ⊥) (Is : Status → Type 0)
     (done : (standing : SinkSeen) → standing.faults ≤ seen.out.after.faults
@@ -135,7 +135,7 @@ module _ {L : Type 0} (line : L → LinkSeen) (seen : Sight) (door : Span (DoorS
   ran_so answer out audit (inr (inl r)) = let none = sym r.no_command ∙ is_command in cc
   ran_so answer out audit (inr (inr r)) = elim r.closes [ inl h ↦ subst Is (sym h.1) memory | inr h ↦ absurd (no_write_fault (inl h.2)) ]
 
--- where no put fails, a text is put
+-- If no put fails, a text is put.
 no_text_fault : (sink : Span SinkSeen) → (Rose sink.before.faults sink.after.faults → ⊥) → (text put : List ℕ) (exit_reason : ExitReason) → PutsText sink text (Err exit_reason) put → ⊥
 no_text_fault sink none text put exits.WriteFault h = none h.1
 no_text_fault sink none text put exits.Memory h = h
@@ -150,7 +150,7 @@ no_text_fault sink none text put exits.DoorFault h = h
 no_text_fault sink none text put (exits.LineRefused event_fault) h = h
 no_text_fault sink none text put (exits.SessionsRefused line) h = h
 
--- a replay that can be served ends by want of memory or the store's refusal alone
+-- A replay that has all that it needs ends early only if memory runs out or the store refuses.
 module _ {L : Type 0} (line : L → LinkSeen) (seen : Sight) (door : Span (DoorSeen L)) (counts : Span RunCounts) (words : List (List ℕ)) (can : CanReplay seen words) where
   abbrev its : Command
   its = commands.Replay can.replay
@@ -196,14 +196,15 @@ replay_standing seen standing later words can = record {
   opens = can_open_standing seen standing later _ _ can.opens;
 }
 
--- where nothing is missing and no read or put fails, all is served, unless memory runs out or the store refuses
+-- If nothing is missing and no read or put fails, everything is served, unless memory runs out or
+-- the store refuses.
 pub is_served : {L : Type 0} (line : L → LinkSeen) (seen : Sight) (door : Span (DoorSeen L)) (counts : Span RunCounts) (words : List (List ℕ)) (can : CanReplay seen words)
     → (answer : Status) (out audit : List ℕ) → Runs line seen door counts words answer out audit → IsCompleted answer
 is_served line seen door counts words can =
     ran_so line seen door counts words (commands.Replay can.replay) can.is_command can.opens.no_write_fault IsCompleted (λ standing later out audit finished ended. inl refl) (inr (inl refl))
     (λ standing later out audit exit_reason ends. no_exit_reason line (standing_at seen standing) door counts words (replay_standing seen standing later words can) out audit exit_reason ends.0)
 
--- the same of a check
+-- The same for a check.
 module _ {L : Type 0} (line : L → LinkSeen) (seen : Sight) (door : Span (DoorSeen L)) (counts : Span RunCounts) (words : List (List ℕ)) (can : CanCheck seen words) where
   abbrev checked : Command
   checked = commands.Check can.name
@@ -226,14 +227,14 @@ check_standing seen standing later words can = record {
   opens = can_open_standing seen standing later _ _ can.opens;
 }
 
--- where the application is there and no read or put fails, it is checked, unless memory runs out
+-- If the application is there and no read or put fails, it is checked, unless memory runs out.
 pub is_checked : {L : Type 0} (line : L → LinkSeen) (seen : Sight) (door : Span (DoorSeen L)) (counts : Span RunCounts) (words : List (List ℕ)) (can : CanCheck seen words)
     → (answer : Status) (out audit : List ℕ) → Runs line seen door counts words answer out audit → (answer ≡ statuses.Done) ⊎ (answer ≡ statuses.Memory)
 is_checked line seen door counts words can =
     ran_so line seen door counts words (commands.Check can.name) can.is_command can.opens.no_write_fault (λ status. (status ≡ statuses.Done) ⊎ (status ≡ statuses.Memory)) (λ standing later out audit finished ended. inl refl) (inr refl)
     (λ standing later out audit exit_reason ends. inr (no_check_exit_reason line (standing_at seen standing) door counts words (check_standing seen standing later words can) out audit exit_reason ends.0))
 
--- the same of a demo
+-- The same for a demo.
 module _ {L : Type 0} (line : L → LinkSeen) (seen : Sight) (door : Span (DoorSeen L)) (counts : Span RunCounts) (words : List (List ℕ)) (can : CanDemo seen words) where
   abbrev shown : Command
   shown = commands.Demo can.count
@@ -281,14 +282,14 @@ demo_standing seen standing later words can = record {
   no_write_fault = λ failed. can.no_write_fault (standing_fault seen standing later failed);
 }
 
--- where no put fails, all requests are answered, unless memory runs out or the store refuses
+-- If no put fails, all requests are answered, unless memory runs out or the store refuses.
 pub is_shown : {L : Type 0} (line : L → LinkSeen) (seen : Sight) (door : Span (DoorSeen L)) (counts : Span RunCounts) (words : List (List ℕ)) (can : CanDemo seen words)
     → (answer : Status) (out audit : List ℕ) → Runs line seen door counts words answer out audit → IsCompleted answer
 is_shown line seen door counts words can =
     ran_so line seen door counts words (commands.Demo can.count) can.is_command can.no_write_fault IsCompleted (λ standing later out audit finished ended. inl refl) (inr (inl refl))
     (λ standing later out audit exit_reason ends. no_demo_exit_reason line (standing_at seen standing) door counts words (demo_standing seen standing later words can) out audit exit_reason ends.0)
 
--- the same of a dump
+-- The same for a dump.
 module _ {L : Type 0} (line : L → LinkSeen) (seen : Sight) (door : Span (DoorSeen L)) (counts : Span RunCounts) (words : List (List ℕ)) (can : CanDump seen words) where
   abbrev dumped : Command
   dumped = commands.Dump can.dumping
@@ -326,14 +327,15 @@ dump_standing seen standing later words can = record {
   opens = can_open_standing seen standing later _ _ can.opens;
 }
 
--- where the application is there and no read or put fails, the store is dumped, unless memory runs out or the store refuses
+-- If the application is there and no read or put fails, the store is dumped, unless memory runs out
+-- or the store refuses.
 pub is_dumped : {L : Type 0} (line : L → LinkSeen) (seen : Sight) (door : Span (DoorSeen L)) (counts : Span RunCounts) (words : List (List ℕ)) (can : CanDump seen words)
     → (answer : Status) (out audit : List ℕ) → Runs line seen door counts words answer out audit → IsCompleted answer
 is_dumped line seen door counts words can =
     ran_so line seen door counts words (commands.Dump can.dumping) can.is_command can.opens.no_write_fault IsCompleted (λ standing later out audit finished ended. inl refl) (inr (inl refl))
     (λ standing later out audit exit_reason ends. no_dump_exit_reason line (standing_at seen standing) door counts words (dump_standing seen standing later words can) out audit exit_reason ends.0)
 
--- a store that isn't attached completes so
+-- If a store can't be attached, the status is one of these.
 not_attached : (db : Option (List ℕ)) (app : Application) (k : Span KeeperSeen) (exit_reason : ExitReason) → AttachesAs db app k (Err exit_reason) → IsCompleted (status_of exit_reason)
 not_attached db app k exits.StoreFault h = inr (inr (inl refl))
 not_attached db app k (exits.OtherStore stored wanted) h = inr (inr (inr refl))
@@ -354,14 +356,14 @@ completed_so exit_reason cause same h = subst (λ (e : ExitReason). IsCompleted 
 not_moved_from : (db : Option (List ℕ)) (app : Application) (k : Span KeeperSeen) (put : List ℕ) (exit_reason : ExitReason) → IsStoreUnmoved db app k (Err exit_reason) put → IsCompleted (status_of exit_reason)
 not_moved_from db app k put exit_reason h = completed_so exit_reason h.exit_reason h.ended (not_attached db app k h.exit_reason h.attaches)
 
--- and so does one that was kept
+-- So it is if the store was kept as it was.
 kept_so : (k : Span KeeperSeen) (put : List ℕ) (exit_reason : ExitReason) → IsKept k (Err exit_reason) put → IsCompleted (status_of exit_reason)
 kept_so k put exit_reason h = elim h.ended [
   | inl e ↦ completed_so exit_reason exits.StoreFault e.0 (inr (inr (inl refl)))
   | inr e ↦ completed_so exit_reason exits.Memory e (inr (inl refl))
 ]
 
--- the same of a `why`
+-- The same for a `why`.
 module _ {L : Type 0} (line : L → LinkSeen) (seen : Sight) (door : Span (DoorSeen L)) (counts : Span RunCounts) (words : List (List ℕ)) (can : CanExplain seen words) where
   abbrev explained : Command
   explained = commands.Why can.explaining
@@ -394,14 +396,15 @@ explain_standing seen standing later words can = record {
   opens = can_open_standing seen standing later _ _ can.opens;
 }
 
--- where the application is there and no read or put fails, it is told, unless memory runs out or the store refuses
+-- If the application is there and no read or put fails, the explanation is put, unless memory runs
+-- out or the store refuses.
 pub is_explained : {L : Type 0} (line : L → LinkSeen) (seen : Sight) (door : Span (DoorSeen L)) (counts : Span RunCounts) (words : List (List ℕ)) (can : CanExplain seen words)
     → (answer : Status) (out audit : List ℕ) → Runs line seen door counts words answer out audit → IsCompleted answer
 is_explained line seen door counts words can =
     ran_so line seen door counts words (commands.Why can.explaining) can.is_command can.opens.no_write_fault IsCompleted (λ standing later out audit finished ended. inl refl) (inr (inl refl))
     (λ standing later out audit exit_reason ends. no_explain_exit_reason line (standing_at seen standing) door counts words (explain_standing seen standing later words can) out audit exit_reason ends.0)
 
--- the same of an upgrade
+-- The same for an upgrade.
 module _ {L : Type 0} (line : L → LinkSeen) (seen : Sight) (door : Span (DoorSeen L)) (counts : Span RunCounts) (words : List (List ℕ)) (can : CanUpgrade seen words) where
   abbrev moving : Command
   moving = commands.Upgrade can.upgrading
@@ -420,7 +423,7 @@ module _ {L : Type 0} (line : L → LinkSeen) (seen : Sight) (door : Span (DoorS
   no_upgrade_opening : (exit_reason : ExitReason) → EndsOpening seen moving exit_reason → status_of exit_reason ≡ statuses.Memory
   no_upgrade_opening exit_reason h = no_opening_fault seen moving can.old can.opens exit_reason h upgrade_long (λ n bad. absurd bad) (λ there bytes line. next_spelled bytes line)
 
-  -- what is read of either file is what the file spells
+  -- The application that is read from each file is the one that the file spells.
   found : (extends : Bool) → Extends seen words can extends → (old new : Application) → HasApplication seen moving old → HasNext seen moving new
       → is_none (models_lack 0 old.models new.models) ≡ extends
   found extends finds old new had next =
@@ -487,8 +490,8 @@ upgrade_standing seen standing later words can = record {
   opens = can_open_standing seen standing later _ _ can.opens;
 }
 
--- where both applications are there, the second extends the first, and no read or put fails, the store is brought to
--- the second, unless memory runs out or the store refuses
+-- If both applications are there, the second extends the first, and no read or put fails, the store
+-- is upgraded to the second, unless memory runs out or the store refuses.
 pub is_upgraded : {L : Type 0} (line : L → LinkSeen) (seen : Sight) (door : Span (DoorSeen L)) (counts : Span RunCounts) (words : List (List ℕ)) (can : CanUpgrade seen words)
     → Extends seen words can true → (answer : Status) (out audit : List ℕ) → Runs line seen door counts words answer out audit → IsCompleted answer
 is_upgraded line seen door counts words can finds =
@@ -496,7 +499,7 @@ is_upgraded line seen door counts words can finds =
     (λ standing later out audit exit_reason ends.
     no_upgrade_exit_reason line (standing_at seen standing) door counts words (upgrade_standing seen standing later words can) finds out audit exit_reason ends.0)
 
--- and where the second doesn't extend the first, it is refused, unless memory runs out
+-- If the second doesn't extend the first, it is refused, unless memory runs out.
 pub is_refused : {L : Type 0} (line : L → LinkSeen) (seen : Sight) (door : Span (DoorSeen L)) (counts : Span RunCounts) (words : List (List ℕ)) (can : CanUpgrade seen words)
     → Extends seen words can false → (answer : Status) (out audit : List ℕ) → Runs line seen door counts words answer out audit
     → (answer ≡ statuses.UpgradeRefused) ⊎ (answer ≡ statuses.Memory)
@@ -507,7 +510,7 @@ is_refused line seen door counts words can finds =
     (λ standing later out audit exit_reason ends.
     no_refusal_exit_reason line (standing_at seen standing) door counts words (upgrade_standing seen standing later words can) finds out audit exit_reason ends.0)
 
--- the same of serving a door
+-- The same for serving a door.
 module _ {L : Type 0} (line : L → LinkSeen) (seen : Sight) (door : Span (DoorSeen L)) (counts : Span RunCounts) (words : List (List ℕ)) (can : CanServe seen door words) where
   abbrev listening : Command
   listening = commands.Serve can.serving
@@ -548,7 +551,8 @@ serve_standing seen standing later door words can = record {
   opens = can_open_standing seen standing later _ _ can.opens;
 }
 
--- where nothing is missing and no read, put or call of the door fails, it is served, unless memory runs out or the store refuses
+-- If nothing is missing and no read, put or call of the door fails, the door is served, unless
+-- memory runs out or the store refuses.
 pub is_listened : {L : Type 0} (line : L → LinkSeen) (seen : Sight) (door : Span (DoorSeen L)) (counts : Span RunCounts) (words : List (List ℕ)) (can : CanServe seen door words)
     → (answer : Status) (out audit : List ℕ) → Runs line seen door counts words answer out audit → IsCompleted answer
 is_listened line seen door counts words can =

@@ -1,4 +1,4 @@
--- Requests that are answered in silence, one after another.
+-- Requests that are answered without output, one after another.
 use Rattle.std.proofs.Common.{◌≡◌, ◌∙◌, ap, sym, subst, refl, inl, inr, ℕ, ◌+◌, ◌≤◌, Bool, true, false, IsTrue, if◌then◌else◌, Option, Some, None, Result, Ok, Err, List, [], ◌∷◌, ◌++◌, length, append-nil, length-append, decimal, arith, codes}
 use denote.Ref.{Bor}
 use Rattle.std.specs.Str.{bytes_eq}
@@ -48,20 +48,20 @@ use Rattle.jac_serve_events.proofs.BringsLemmas.{brings-push, brings-begun}
 use Rattle.jac_serve_events.proofs.EventLemmas.{ask_entry}
 use Rattle.jac_serve_events.proofs.ProgressLemmas.{served_before, served_push, audited_more, heard_by, is_served_by, nothing_more, early_is_not_whole}
 
--- a whole put, and a torn one
+-- A whole put. Below, a torn one.
 pub WentTo-whole : (s : Span SinkSeen) (line : List ℕ) (tally : Tally) (done : Unit {0}) → IsPut {E = Failed} s line (Ok done) → WentTo s (PutsTally line tally (Ok tally))
 WentTo-whole s line tally done put = record { put = put.put; lasts = put.lasts; took = put.took; holds = (put.is_put, refl) }
 
 pub WentTo-torn : (s : Span SinkSeen) (line : List ℕ) (tally : Tally) (failed : Failed) → IsPut {E = Failed} s line (Err failed) → WentTo s (PutsTally line tally (Err failed))
 WentTo-torn s line tally failed put = record { put = put.put; lasts = put.lasts; took = put.took; holds = put.is_put }
 
--- the same of an equal line and an equal tally
+-- The same for an equal line and an equal tally.
 PutsTally-same : (line line_now : List ℕ) (tally tally_now : Tally) (result : Result Tally Failed) (put : List ℕ) → line ≡ line_now → tally ≡ tally_now
     → PutsTally line tally result put → PutsTally line_now tally_now result put
 PutsTally-same line line_now tally tally_now result put same_line same_tally h =
     subst (λ (l : List ℕ). PutsTally l tally_now result put) same_line (subst (λ (t : Tally). PutsTally line t result put) same_tally h)
 
--- the same of an equal rest of the line
+-- The same for an equal rest of the line.
 pub same_line : (k : ℕ) (rest rest_now : List ℕ) (tally : Tally) (result : Result Tally Failed) (put : List ℕ) → rest ≡ rest_now
     → PutsTally (decimal k ++ rest) tally result put → PutsTally (decimal k ++ rest_now) tally result put
 same_line k rest rest_now tally result put same h = subst (λ (r : List ℕ). PutsTally (decimal k ++ r) tally result put) same h
@@ -72,7 +72,7 @@ tallies_ask : (app : Application) (k : Span RunSeen) (served : ℕ) (ask : Ask) 
 tallies_ask app k served ask answer (Ok tally) put entry h = (answer, entry, h.0, h.1)
 tallies_ask app k served ask answer (Err failed) put entry h = (answer, entry, h)
 
--- a request was answered, and its audit line put
+-- A request was answered, and its audit line was put.
 pub ask_counted : (app : Application) (k : Span RunSeen) (served : ℕ) (ask : Ask) (rest : List ℕ) (tally : Tally) (result : Result Tally Failed) (put : List ℕ)
     → IsCounted app k ask rest tally → (IsTrue k.after.keeper.tells → IsTrue k.before.keeper.tells) → k.before.keeper.faults ≤ k.after.keeper.faults
     → PutsTally (decimal (served + 1) ++ rest) tally result put → TalliesAsk app k served ask result put
@@ -80,7 +80,7 @@ ask_counted app k served ask rest tally result put made told later h =
     tallies_ask app k served ask made.made.answer result put (is_made false app k ways.Line ask false made.reply rest made.made told later)
     (PutsTally-same _ _ _ _ result put (ap (λ (t : List ℕ). decimal (served + 1) ++ t) made.made.audit_made) made.tally_is h)
 
--- a request wasn't answered
+-- A request wasn't answered.
 pub ask_stopped : (app : Application) (k : Span RunSeen) (served : ℕ) (ask : Ask) (viewer : Option ℕ) (stop : Stop) (result : Result Tally Failed) (put : List ℕ)
     → viewer ≡ ask.viewer → IsEntryOf false app k (whole ask false) (refusal (status_of_stop stop) None)
     → PutsTally (audit_text (served + 1) (status_of_stop stop) viewer None None) (tally_of (refusal (status_of_stop stop) None)) result put → TalliesAsk app k served ask result put
@@ -88,7 +88,7 @@ ask_stopped app k served ask viewer stop result put same entry h =
     tallies_ask app k served ask (refusal (status_of_stop stop) None) result put entry
     (PutsTally-same _ _ _ _ result put (ap (λ (v : Option ℕ). audit_text (served + 1) (status_of_stop stop) v None None) same) refl h)
 
--- sums with one more at the end
+-- Sums with one more term at the end.
 sum_one : (x : ℕ) → 0 + x ≡ x + 0
 sum_one x = omega arith
 
@@ -114,7 +114,7 @@ labels_push (first ∷ log) entry =
     (if bytes_eq (method_of entry.subject) (codes "GET") then labels_shown entry.answer.shown else 0) (labels_in (log ++ entry ∷ []))
     (labels_push log entry)
 
--- a log in numbers, with one more entry
+-- The summary of a log with one more entry.
 summary_push : (log : List LogEntry) (entry : LogEntry) → summary_after (summary_of log) (method_of entry.subject) (tally_of entry.answer) ≡ summary_of (log ++ entry ∷ [])
 summary_push log entry =
     let asks = sym (length-append log (entry ∷ [])) in
@@ -124,7 +124,7 @@ summary_push log entry =
     let labels = labels_push log entry in
     λ i. record { asks = asks i; posts = posts i; gets = gets i; bytes = bytes i; labels = labels i }
 
--- some lines were served, and these are left
+-- Some lines were served, and these are left.
 pub record Tallying (app : Application) (k : Span RunSeen) (bytes : List ℕ) (left : Option (List ℕ)) (summary : Summary) (audit : List ℕ) : Type 0 where
   pub lines : ℕ
   pub events : List Event
@@ -150,7 +150,7 @@ tally_start app a bytes summary none start = record {
   summary_is = none;
 }
 
--- the lines that are left, by what the first of them writes down
+-- The lines that are left, by what the first of them describes.
 written_next : {app : Application} {k : Span RunSeen} {bytes : List ℕ} {left : Option (List ℕ)} {summary : Summary} {audit : List ℕ}
     (p : Tallying app k bytes left summary audit) (line : List ℕ) (rest : List (List ℕ)) (written : Option (Option Event)) → parts_left 10 left ≡ line ∷ rest → line_of line ≡ written
     → served_before p.events (script_step (p.lines + 1) written (λ c. false) (script_from rest (p.lines + 1 + 1))) ≡ script_of bytes
@@ -161,7 +161,7 @@ written_next {app} {k} {bytes} {left} p line rest written parts is =
 asks_counted : (summary : Summary) (log : List LogEntry) → summary ≡ summary_of log → length log ≡ summary.asks
 asks_counted summary log is = sym (ap (λ (s : Summary). s.asks) is)
 
--- a request was answered and counted
+-- A request was answered and counted.
 tally_more : (app : Application) (a b c : RunSeen) (bytes : List ℕ) (left after : Option (List ℕ)) (summary : Summary) (audit line au : List ℕ)
     (viewer : Option ℕ) (method path query body : List ℕ) (tally : Tally)
     → Tallying app (span a b) bytes left summary audit → parts_left 10 left ≡ line ∷ parts_left 10 after
@@ -189,7 +189,7 @@ tally_more app a b c bytes left after summary audit line au viewer method path q
           ∙ summary_push p.log entry;
     }
 
--- an empty line is passed over
+-- An empty line is skipped.
 tally_same : (app : Application) (a b c : RunSeen) (bytes : List ℕ) (left after : Option (List ℕ)) (summary : Summary) (audit line : List ℕ)
     → Tallying app (span a b) bytes left summary audit → parts_left 10 left ≡ line ∷ parts_left 10 after → line_of line ≡ Some None → c ≡ b
     → Tallying app (span a c) bytes after summary audit
@@ -211,7 +211,7 @@ ok_summary x y e = cc
 no_ok : (X : Type 0) (fault : DemoFault) (y : Summary) → ◌≡◌ {A = Result Summary DemoFault} (Err fault) (Ok y) → X
 no_ok X fault y e = absurd cc
 
--- a line was served
+-- A line was served.
 pub tally_on : (app : Application) (a b c : RunSeen) (bytes : List ℕ) (left after : Option (List ℕ)) (summary new : Summary) (audit line au : List ℕ) (written : Option (Option Event))
     → Tallying app (span a b) bytes left summary audit → parts_left 10 left ≡ line ∷ parts_left 10 after → line_of line ≡ written
     → TalliesLine app (span b c) summary written (Ok new) au → Tallying app (span a c) bytes after new (audit ++ au)
@@ -227,7 +227,7 @@ tally_on app a b c bytes left after summary new audit line au (Some (Some (Begin
 tally_on app a b c bytes left after summary new audit line au (Some (Some (Piece n piece))) p parts is h = absurd h
 tally_on app a b c bytes left after summary new audit line au (Some (Some (Finish n))) p parts is h = absurd h
 
--- the lines so far were served, and no more
+-- The lines so far were served, and nothing more.
 tallied_with : (early : Bool) (app : Application) (a b c : RunSeen) (bytes : List ℕ) (left : Option (List ℕ)) (summary : Summary) (audit : List ℕ) (unserved : List Event)
     → (p : Tallying app (span a b) bytes left summary audit) → c ≡ b → (script_of bytes).events ≡ p.events ++ unserved → (early ≡ false → unserved ≡ [])
     → Tallied early app (span a c) (script_of bytes).events p.log audit
@@ -238,7 +238,7 @@ tallied_with early app a b c bytes left summary audit unserved p still parts end
   audit_text = p.audit_text;
 }
 
--- the audit line of a request was torn
+-- The audit line of a request was torn.
 tally_torn : (app : Application) (a b c : RunSeen) (bytes : List ℕ) (left after : Option (List ℕ)) (summary : Summary) (audit line au : List ℕ)
     (viewer : Option ℕ) (method path query body : List ℕ)
     → Tallying app (span a b) bytes left summary audit → parts_left 10 left ≡ line ∷ parts_left 10 after
@@ -265,7 +265,7 @@ tally_torn app a b c bytes left after summary audit line au viewer method path q
       audit_text = ap (λ (t : List ℕ). t ++ au) p.audit_text;
     }
 
--- serving stopped at a line
+-- Serving stopped at a line.
 pub tally_stop : (app : Application) (a b c : RunSeen) (bytes : List ℕ) (left after : Option (List ℕ)) (summary : Summary) (audit line au : List ℕ) (written : Option (Option Event)) (fault : DemoFault)
     → Tallying app (span a b) bytes left summary audit → parts_left 10 left ≡ line ∷ parts_left 10 after → line_of line ≡ written
     → TalliesLine app (span b c) summary written (Err fault) au → Tallies app (span a c) (script_of bytes) (Err fault) (audit ++ au)
@@ -282,7 +282,7 @@ tally_stop app a b c bytes left after summary audit line au (Some (Some (Begin n
 tally_stop app a b c bytes left after summary audit line au (Some (Some (Piece n piece))) faults.Write p parts is h = absurd h
 tally_stop app a b c bytes left after summary audit line au (Some (Some (Finish n))) faults.Write p parts is h = absurd h
 
--- no line is left
+-- No line is left.
 pub tally_all : (app : Application) (a b : RunSeen) (bytes : List ℕ) (left : Option (Bor (List ℕ))) (summary : Summary) (audit : List ℕ)
     → ((rest : Bor (List ℕ)) → left ≡ Some rest → ⊥) → Tallying app (span a b) bytes (option_now left) summary audit
     → Tallies app (span a b) (script_of bytes) (Ok summary) audit
@@ -296,12 +296,12 @@ tally_all app a b bytes None summary audit none p = (
 )
 tally_all app a b bytes (Some rest) summary audit none p = absurd (none rest refl)
 
--- the calendar's file is one that is read
+-- The calendar's text isn't too long.
 pub short_calendar : length calendar_text ≤ 1048576
 unfolding calendar_text
 short_calendar = omega arith
 
--- memory ran out before the first request
+-- Memory ran out before the first request.
 pub tally_none : (app : Application) (k : RunSeen) (count : ℕ) → (IsTrue k.keeper.tells → IsStart app k.keeper.state)
     → Tallies app (span k k) (demo_script count) (Err faults.Memory) []
 tally_none app k count start =
@@ -309,7 +309,7 @@ tally_none app k count start =
     let p = tally_start app k (demo_text count) none refl start in
     (p.log, tallied_with true app k k k (demo_text count) (Some (demo_text count)) none [] _ p refl (ap (λ (s : Script). s.events) (sym p.script)) early_is_not_whole)
 
--- a store that wasn't attached ends the counting
+-- If a store wasn't attached, the counting ends.
 pub tally_unattached : (app : Application) (k : Span RunSeen) (count : ℕ) (exit_reason : ExitReason) → AttachesAs None app (keepers k) (Err exit_reason) → k.after.splits ≡ k.before.splits
     → EndsTallying app k count (Err exit_reason) []
 tally_unattached app k count exits.StoreFault h unsplit = (h.0, record { unattached = h.1; unsplit = unsplit })
@@ -325,7 +325,7 @@ tally_unattached app k count (exits.LineRefused event_fault) h unsplit = absurd 
 tally_unattached app k count (exits.SessionsRefused line) h unsplit = absurd h
 tally_unattached app k count exits.WriteFault h unsplit = absurd h
 
--- the requests were answered on an attached store
+-- The requests were answered on a store that was attached.
 pub tallied_on : (app : Application) (before opened : KeeperSeen) (counts : RunCounts) (after : RunSeen) (count : ℕ) (result : Result Summary DemoFault) (audit : List ℕ)
     → AttachesAs None app (span before opened) (Ok tt) → after.keeper.store ≡ opened.store
     → TalliesLeaving app (span (run_seen_of opened counts) after) (demo_script count) result audit → IsTalliedOn app (span (run_seen_of before counts) after) count result audit
@@ -339,7 +339,7 @@ tallied_on app before opened counts after count result audit attaches stays h = 
 no_fault : (X : Type 0) (summary : Summary) → ◌≡◌ {A = Result Summary ExitReason} (Ok summary) (Err exits.WriteFault) → X
 no_fault X summary is = absurd cc
 
--- the summary is put whole, or torn, or there is none
+-- The summary is put whole, or torn, or there is none.
 module _ (out_before out_after audit_before audit_after : SinkSeen) (app : Application) (k : Span RunSeen) (count : ℕ) where
   pub told_whole : (summary : Summary) (done : Unit {0}) → WentTo (span audit_before audit_after) (EndsTallying app k count (Ok summary))
       → IsPut {E = Failed} (span out_before out_after) (summary_line summary) (Ok done)
@@ -381,7 +381,7 @@ told_none out audit_before audit_after app k count exit_reason went rose = recor
   holds = record { ended = Err exit_reason; ends = went.holds; rose = rose; told = (refl, refl) };
 }
 
--- the steps after the aim, seen from before it
+-- The steps after the audit was aimed, seen from before.
 pub told_behind : (out_before out_after audit_before audit_aimed audit_after : SinkSeen) (app : Application) (k : Span RunSeen) (count : ℕ) (result : Result (Unit {0}) ExitReason) (out audit : List ℕ)
     → audit_before.faults ≤ audit_aimed.faults → IsDemoTold (sinks out_before out_after audit_aimed audit_after) app k count result out audit
     → IsDemoTold (sinks out_before out_after audit_before audit_after) app k count result out audit
@@ -392,7 +392,7 @@ told_behind out_before out_after audit_before audit_aimed audit_after app k coun
   told = h.told;
 }
 
--- the aim failed
+-- The audit couldn't be aimed.
 pub unaimed : (out audit_before audit_after : SinkSeen) (failed : Failed) (app : Application) (k : RunSeen) (count : ℕ) → Aims audit_before audit_after None (Err failed)
     → WentAimed (sinks out out audit_before audit_after) (EndsCounting (sinks out out audit_before audit_after) app (span k k) count (Err exits.WriteFault))
 unaimed out audit_before audit_after failed app k count aims = record {

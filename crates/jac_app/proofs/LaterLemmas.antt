@@ -1,4 +1,4 @@
--- What a status comes for, seen when more was put.
+-- The cause of a status still holds after more was put.
 use Rattle.std.proofs.Common.{◌≡◌, ◌⊎◌, ℕ, ◌≤◌, inl, inr, Some, List}
 use Rattle.jac_io.specs.Seen.{SinkSeen}
 use Rattle.jac_io.specs.Linked.{DoorSeen}

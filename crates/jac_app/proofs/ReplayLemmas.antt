@@ -31,7 +31,7 @@ use Rattle.jac_serve_events.proofs.ProgressLemmas.{puts_torn_within}
 use Rattle.jac_command_base.proofs.ExitReasonLemmas.{is_attached, went_aimed, WentAimed-on}
 use Rattle.jac_command_base.proofs.StartupLemmas.{application_read, ended_early, idle_behind, memory_early}
 
--- a store that wasn't attached ends them
+-- If a store wasn't attached, a replay ends.
 pub attach_ends : (command : Command) (app : Application) (sessions : List Session) (k : Span RunSeen) (script : Script) (exit_reason : ExitReason) (s : Sinks)
     → AttachesAs (db_of command) app (keepers k) (Err exit_reason) → k.after.splits ≡ k.before.splits
     → EndsAttaching command app sessions k script (Err exit_reason) s [] []
@@ -48,7 +48,7 @@ attach_ends command app sessions k script (exits.LineRefused event_fault) s h un
 attach_ends command app sessions k script (exits.SessionsRefused line) s h unsplit = absurd h
 attach_ends command app sessions k script exits.WriteFault s h unsplit = absurd h
 
--- the events were served on it, by a dispatcher that is as lazy as the command says
+-- The events were served on the store. The dispatcher is lazy if the command says so.
 module _ (command : Command) (app : Application) (sessions : List Session) (before opened : KeeperSeen) (counts : RunCounts) (after : RunSeen) (events : List ℕ)
     (attaches : AttachesAs (db_of command) app (span before opened) (Ok tt)) (stays : after.keeper.store ≡ opened.store) (lazy : Bool) (same : lazy ≡ lazy_of command) where
   on : (result : Result (Unit {0}) ExitReason) (s : Sinks) (o a : List ℕ)
@@ -78,21 +78,21 @@ module _ (command : Command) (app : Application) (sessions : List Session) (befo
   served_on (Err (exits.UpgradeRefused text)) s o a h = absurd h.1
   served_on (Err (exits.SessionsRefused n)) s o a h = absurd h.1
 
--- serving them stopped
+-- Serving the events stopped early.
 pub served_stopped : (x : AnswerSpec) (k : Span RunSeen) (events : List ℕ) (stopped : ReplayError) (s : Sinks) (o a : List ℕ)
     → ServesAs x k events (Err stopped) s o a → EndsServed x k (script_of events) (Err (exit_reason_of stopped)) s o a
 served_stopped x k events (stops.Refused event_fault) s o a h = h
 served_stopped x k events stops.Write s o a h = h
 served_stopped x k events stops.Memory s o a h = h
 
--- the last steps end a replay
+-- The last steps end a replay.
 pub served_ends : (seen : Sight) (counts : Span RunCounts) (command : Command) (app : Application) (sessions : List Session) (events out audit : List ℕ) (result : Result (Unit {0}) ExitReason)
     → IsOpened seen command app sessions events → EndsServing (sinks_of seen) command app sessions (held_of seen counts) (script_of events) result out audit
     → EndsReplay seen counts command result out audit
 served_ends seen counts command app sessions events out audit result opened h =
     inr (record { app = app; sessions = sessions; events = events; opened = opened; ends = h })
 
--- what was torn after the aim was torn within all
+-- What was torn after the aim was torn in the whole.
 served_within : (x : AnswerSpec) (k : Span RunSeen) (script : Script) (all part : Sinks) (result : Result (Unit {0}) ExitReason) (o a : List ℕ) → FailsWithin all part
     → EndsServed x k script result part o a → EndsServed x k script result all o a
 served_within x k script all part (Ok done) o a within h = h
@@ -118,7 +118,7 @@ on_within command app sessions k script all part result o a within h = record {
   ends = served_within (answer_spec_of (lazy_of command) app sessions) (opened_on h.opened k h.left) script all part result o a within h.ends;
 }
 
--- the aim and what follows it
+-- The aim and what follows it.
 pub serving_behind : (all part : Sinks) (command : Command) (app : Application) (sessions : List Session) (k : Span RunSeen) (script : Script) (result : Result (Unit {0}) ExitReason) (o a : List ℕ)
     → FailsWithin all part → IsAimed (audit_of command) all.audit → EndsAttaching command app sessions k script result part o a
     → EndsServing all command app sessions k script result o a
@@ -140,7 +140,7 @@ serving_behind all part command app sessions k script (Err (exits.NewRefused tex
 serving_behind all part command app sessions k script (Err (exits.UpgradeRefused text)) o a within aimed h = absurd h.ends
 serving_behind all part command app sessions k script (Err (exits.SessionsRefused n)) o a within aimed h = absurd h.ends
 
--- the aim failed
+-- The audit couldn't be aimed.
 pub aim_failed : (out audit_before audit_after : SinkSeen) (command : Command) (failed : Failed) (app : Application) (sessions : List Session) (k : RunSeen) (script : Script)
     → Aims audit_before audit_after (audit_of command) (Err failed)
     → WentAimed (sinks out out audit_before audit_after) (EndsServing (sinks out out audit_before audit_after) command app sessions (span k k) script (Err exits.WriteFault))
@@ -154,7 +154,7 @@ aim_failed out audit_before audit_after command failed app sessions k script aim
   holds = inl (aims.rose, record { idle = record { no_out = refl; no_audit = refl; unaimed = aims.err; still = refl }; unsplit = refl });
 }
 
--- the files of a replay were read
+-- The files of a replay were read.
 pub replay_opened : (files : Span FilesSeen) (out audit : Span SinkSeen) (keeper : Span KeeperSeen) (replay : Replay) (app : Application) (sessions : List Session) (events : List ℕ)
     → AreFilesRead (commands.Replay replay) files app sessions events → IsOpened (sight_of files out audit keeper) (commands.Replay replay) app sessions events
 replay_opened files out audit keeper replay app sessions events read = record {
@@ -163,14 +163,14 @@ replay_opened files out audit keeper replay app sessions events read = record {
   events_read = read.events_had;
 }
 
--- so there are few events
+-- The first events were served, and only a prefix of the last audit line was put.
 pub few_events : (files : Span FilesSeen) (replay : Replay) (app : Application) (sessions : List Session) (events : List ℕ)
     → AreFilesRead (commands.Replay replay) files app sessions events → length events < 2 ^ 32
 few_events files replay app sessions events read =
     let short : length events ≤ 16777216 = read.events_had.short in
     omega (arith, short)
 
--- a replay that was halted as it began
+-- A replay that ended when it began.
 module _ (files : Span FilesSeen) (out audit later : SinkSeen) (before after : KeeperSeen) (counts : RunCounts) (replay : Replay) where
   replay_idle : (exit_reason : ExitReason) → IsEndedEarly (sight_of files (span out out) (span audit later) (span before after)) (commands.Replay replay) (Err exit_reason) [] [] → later ≡ audit
       → WentAimed (sinks out out audit later) (EndsReplay (sight_of files (span out out) (span audit later) (span before after)) (span counts counts) (commands.Replay replay) (Err exit_reason))
@@ -222,7 +222,7 @@ module _ (files : Span FilesSeen) (out audit later : SinkSeen) (before after : K
   replay_halted exit_reason (inl early) = replay_idle exit_reason (ended_early (commands.Replay replay) files (span out out) (span audit later) (span before after) exit_reason early) early.uncalled
   replay_halted exit_reason (inr behind) = replay_behind behind.app behind.sessions behind.events behind.read exit_reason behind.halts
 
--- one that began, and then served its events
+-- A replay that began, and then served its events.
 pub replay_served : (files : Span FilesSeen) (out_before out_after audit aimed later : SinkSeen) (before opened after : KeeperSeen) (counts more : RunCounts) (replay : Replay)
     (app : Application) (sessions : List Session) (events : List ℕ) (result : Result (Unit {0}) ExitReason)
     → HasBegun (commands.Replay replay) files (span audit aimed) (span before opened) app sessions events → after.store ≡ opened.store

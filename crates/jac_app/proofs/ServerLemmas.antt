@@ -29,7 +29,7 @@ use Rattle.jac_command_base.proofs.ExitReasonLemmas.{is_attached, went_aimed, We
 use Rattle.jac_command_base.proofs.StartupLemmas.{application_read, ended_early, idle_behind, memory_early}
 
 module _ {L : Type 0} (line : L → LinkSeen) (x : AnswerSpec) where
-  -- the connections were served, and it was told how many
+  -- The connections were served, and their number was put.
   pub served_told : (most : ℕ) (door : Span (DoorSeen L)) (k : Span RunSeen) (out_before out_after audit_before audit_after : SinkSeen) (tally : Tally) (put done : Unit {0})
       → WentTo (span audit_before audit_after) (AreLinksServed line x most door k (Ok tally)) → IsPut {E = Failed} (span out_before out_after) (served_line tally) (Ok put)
       → WentWith (sinks out_before out_after audit_before audit_after) (EndsConnections line x most door k (Ok done))
@@ -43,7 +43,7 @@ module _ {L : Type 0} (line : L → LinkSeen) (x : AnswerSpec) where
     holds = (tally, went.holds, told.is_put);
   }
 
-  -- that put failed
+  -- The put of their number failed.
   pub served_torn : (most : ℕ) (door : Span (DoorSeen L)) (k : Span RunSeen) (out_before out_after audit_before audit_after : SinkSeen) (tally : Tally) (failed : Failed)
       → WentTo (span audit_before audit_after) (AreLinksServed line x most door k (Ok tally)) → IsPut {E = Failed} (span out_before out_after) (served_line tally) (Err failed)
       → WentWith (sinks out_before out_after audit_before audit_after) (EndsConnections line x most door k (Err exits.WriteFault))
@@ -64,7 +64,7 @@ module _ {L : Type 0} (line : L → LinkSeen) (x : AnswerSpec) where
   halted_as most door k halts.Write s audit rose h = inl (h, refl, rose refl)
   halted_as most door k halts.Memory s audit rose h = (h, refl)
 
-  -- serving them ended early
+  -- Serving them ended early.
   pub served_part : (most : ℕ) (door : Span (DoorSeen L)) (k : Span RunSeen) (out audit_before audit_after : SinkSeen) (halt : DoorHalt)
       → (◌≡◌ {A = Result Tally DoorHalt} (Err halt) (Err halts.Write) → HasFaulted (span audit_before audit_after))
       → WentTo (span audit_before audit_after) (AreLinksServed line x most door k (Err halt))
@@ -79,15 +79,15 @@ module _ {L : Type 0} (line : L → LinkSeen) (x : AnswerSpec) where
     holds = halted_as most door k halt (sinks out out audit_before audit_after) went.put rose went.holds;
   }
 
-  -- a write failed
+  -- A write failed.
   pub a_connection_failed : (s : Sinks) (most : ℕ) (door : Span (DoorSeen L)) (k : Span RunSeen) (out audit : List ℕ)
       → EndsConnections line x most door k (Err exits.WriteFault) s out audit → AWriteFailed s
   a_connection_failed s most door k out audit (inl h) = inr h.2
   a_connection_failed s most door k out audit (inr h) = inl h.3
 
--- and what stands around it
+-- The steps around the connections.
 module _ {L : Type 0} (line : L → LinkSeen) (app : Application) (sessions : List Session) where
-  -- ---- after a listening
+  -- ---- after the door listens
 
   module _ (da db dc : DoorSeen L) (serving : ServeArgs) (done : Unit {0}) (heard : Listens da db serving.port (Ok done)) (lasts : DoorLasts db dc) (same_port : IsTrue dc.tells → dc.port ≡ db.port) where
     exit_reason_from : (most : ℕ) (visits : List (LinkVisit L)) (last : Option (LinkVisit L)) (log : List LogEntry) (result : Result Tally DoorHalt)
@@ -129,7 +129,7 @@ module _ {L : Type 0} (line : L → LinkSeen) (app : Application) (sessions : Li
     connections_from x most k (Err (exits.LineRefused event_fault)) s out audit h = absurd h
     connections_from x most k (Err (exits.SessionsRefused n)) s out audit h = absurd h
 
-    -- by a dispatcher that is as lazy as the command says
+    -- The dispatcher is lazy if the command says so.
     module _ (lazy : Bool) (same : lazy ≡ serving.lazy) where
       listened : (k : Span RunSeen) (result : Result (Unit {0}) ExitReason) (s : Sinks) (out audit : List ℕ)
           → EndsConnections line (answer_spec_of lazy app sessions) serving.count (span db dc) k result s out audit → IsListenedAt line app sessions serving (span da dc) k result s out audit
@@ -139,7 +139,7 @@ module _ {L : Type 0} (line : L → LinkSeen) (app : Application) (sessions : Li
             (connections_from (answer_spec_of lazy app sessions) serving.count k result s out audit h);
       }
 
-      -- the port was listened at, and the connections were served
+      -- The door listened at the port, and the connections were served.
       pub door_ends : (k : Span RunSeen) (result : Result (Unit {0}) ExitReason) (s : Sinks) (out audit : List ℕ)
           → EndsConnections line (answer_spec_of lazy app sessions) serving.count (span db dc) k result s out audit → EndsDoor line app sessions serving (span da dc) k result s out audit
       door_ends k (Ok done) s out audit h = listened k (Ok done) s out audit h
@@ -158,7 +158,7 @@ module _ {L : Type 0} (line : L → LinkSeen) (app : Application) (sessions : Li
       door_ends k (Err (exits.LineRefused event_fault)) s out audit h = absurd h
       door_ends k (Err (exits.SessionsRefused n)) s out audit h = absurd h
 
-  -- it wasn't
+  -- The door didn't listen.
   pub unheard_ends : (da db : DoorSeen L) (serving : ServeArgs) (k : RunSeen) (failed : Failed) (s : Sinks) → Listens da db serving.port (Err failed)
       → EndsDoor line app sessions serving (span da db) (span k k) (Err exits.DoorFault) s [] []
   unheard_ends da db serving k failed s listens = (
@@ -166,7 +166,7 @@ module _ {L : Type 0} (line : L → LinkSeen) (app : Application) (sessions : Li
     inl (record { same_port = listens.err; same_coming = listens.same_coming; same_returned = listens.same_returned; still = refl; no_out = refl; no_audit = refl }),
   )
 
-  -- ---- after the attaching
+  -- ---- after the store is attached
 
   module _ (serving : ServeArgs) (door : Span (DoorSeen L)) (before opened : KeeperSeen) (counts : RunCounts) (after : RunSeen)
       (attaches : AttachesAs serving.db app (span before opened) (Ok tt)) (stays : after.keeper.store ≡ opened.store) where
@@ -174,7 +174,7 @@ module _ {L : Type 0} (line : L → LinkSeen) (app : Application) (sessions : Li
         → IsServedAt line app sessions serving door (span (run_seen_of before counts) after) result s out audit
     served_on result s out audit ends = record { opened = opened; attached = is_attached serving.db app before opened after.keeper attaches stays; left = ends.0; ends = ends.1 }
 
-    -- the store was attached, and the door was served
+    -- The store was attached, and the door was served.
     pub attached_ends : (result : Result (Unit {0}) ExitReason) (s : Sinks) (out audit : List ℕ) → EndsDoorLeaving line app sessions serving door (span (run_seen_of opened counts) after) result s out audit
         → EndsAttached line app sessions serving door (span (run_seen_of before counts) after) result s out audit
     attached_ends (Ok done) s out audit h = served_on (Ok done) s out audit h
@@ -191,7 +191,7 @@ module _ {L : Type 0} (line : L → LinkSeen) (app : Application) (sessions : Li
     attached_ends (Err (exits.LineRefused event_fault)) s out audit h = absurd h.1.ends
     attached_ends (Err (exits.SessionsRefused n)) s out audit h = absurd h.1.ends
 
-  -- it wasn't
+  -- The store wasn't attached.
   pub unattached_ends : (serving : ServeArgs) (door : DoorSeen L) (k : Span RunSeen) (exit_reason : ExitReason) (s : Sinks) → AttachesAs serving.db app (keepers k) (Err exit_reason) → k.after.splits ≡ k.before.splits
       → EndsAttached line app sessions serving (span door door) k (Err exit_reason) s [] []
   unattached_ends serving door k exits.StoreFault s h unsplit = (h.0, record { unstarted = record { unattached = h.1; unsplit = unsplit }; uncalled = refl })
@@ -207,9 +207,9 @@ module _ {L : Type 0} (line : L → LinkSeen) (app : Application) (sessions : Li
   unattached_ends serving door k (exits.LineRefused event_fault) s h unsplit = absurd h
   unattached_ends serving door k (exits.SessionsRefused n) s h unsplit = absurd h
 
-  -- ---- after the aim
+  -- ---- after the audit is aimed
 
-  -- what failed after the aim failed within all
+  -- What failed after the aim failed in the whole.
   module _ (serving : ServeArgs) (door : Span (DoorSeen L)) (all part : Sinks) (within : FailsWithin all part) where
     connections_within : (x : AnswerSpec) (most : ℕ) (k : Span RunSeen) (result : Result (Unit {0}) ExitReason) (out audit : List ℕ)
         → EndsConnections line x most door k result part out audit → EndsConnections line x most door k result all out audit
@@ -261,7 +261,7 @@ module _ {L : Type 0} (line : L → LinkSeen) (app : Application) (sessions : Li
       ends = door_within (opened_on h.opened k h.left) result out audit h.ends;
     }
 
-    -- the audit was aimed, and what follows it
+    -- The audit was aimed, and what follows it.
     pub aimed_ends : (k : Span RunSeen) (result : Result (Unit {0}) ExitReason) (out audit : List ℕ) → IsAimed serving.audit all.audit
         → EndsAttached line app sessions serving door k result part out audit → EndsAimed line all app sessions serving door k result out audit
     aimed_ends k (Ok done) out audit aimed h = (aimed, at_within k (Ok done) out audit h)
@@ -279,7 +279,7 @@ module _ {L : Type 0} (line : L → LinkSeen) (app : Application) (sessions : Li
     aimed_ends k (Err (exits.SessionsRefused n)) out audit aimed h = absurd h.ends.ends
     aimed_ends k (Err (exits.LineRefused event_fault)) out audit aimed h = absurd h.ends.ends
 
-  -- it wasn't
+  -- The audit couldn't be aimed.
   pub unaimed_ends : (out audit_before audit_after : SinkSeen) (serving : ServeArgs) (door : DoorSeen L) (k : RunSeen) (failed : Failed) → Aims audit_before audit_after serving.audit (Err failed)
       → WentAimed (sinks out out audit_before audit_after) (EndsAimed line (sinks out out audit_before audit_after) app sessions serving (span door door) (span k k) (Err exits.WriteFault))
   unaimed_ends out audit_before audit_after serving door k failed aims = record {
@@ -292,7 +292,7 @@ module _ {L : Type 0} (line : L → LinkSeen) (app : Application) (sessions : Li
     holds = inl (aims.rose, record { idle = record { no_out = refl; no_audit = refl; unaimed = aims.err; still = refl }; unsplit = refl }, refl);
   }
 
--- the last steps end the command
+-- The last steps end the command.
 pub server_ends : {L : Type 0} (line : L → LinkSeen) (seen : Sight) (door : Span (DoorSeen L)) (counts : Span RunCounts) (serving : ServeArgs) (app : Application) (sessions : List Session) (out audit : List ℕ)
     (result : Result (Unit {0}) ExitReason)
     → HasApplication seen (commands.Serve serving) app → HasSessions seen.files serving.sessions sessions
@@ -300,7 +300,7 @@ pub server_ends : {L : Type 0} (line : L → LinkSeen) (seen : Sight) (door : Sp
 server_ends line seen door counts serving app sessions out audit result application had h =
     inr (record { app = app; sessions = sessions; application = application; sessions_had = had; ends = h })
 
--- a `serve` that was halted as it began
+-- A `serve` that ended when it began.
 module _ {L : Type 0} (line : L → LinkSeen) (files : Span FilesSeen) (out audit later : SinkSeen) (before after : KeeperSeen) (door : DoorSeen L) (counts : RunCounts) (serving : ServeArgs) where
   server_idle : (exit_reason : ExitReason) → IsEndedEarly (sight_of files (span out out) (span audit later) (span before after)) (commands.Serve serving) (Err exit_reason) [] [] → later ≡ audit
       → WentAimed (sinks out out audit later) (EndsServer line (sight_of files (span out out) (span audit later) (span before after)) (span door door) (span counts counts) serving (Err exit_reason))
@@ -353,7 +353,7 @@ module _ {L : Type 0} (line : L → LinkSeen) (files : Span FilesSeen) (out audi
   server_halted exit_reason (inl early) = server_idle exit_reason (ended_early (commands.Serve serving) files (span out out) (span audit later) (span before after) exit_reason early) early.uncalled
   server_halted exit_reason (inr behind) = server_behind behind.app behind.sessions behind.events behind.read exit_reason behind.halts
 
--- one that began, and then served its door
+-- A `serve` that began, and then served its door.
 pub server_served : {L : Type 0} (line : L → LinkSeen) (files : Span FilesSeen) (out_before out_after audit aimed later : SinkSeen) (before opened after : KeeperSeen) (door : Span (DoorSeen L))
     (counts more : RunCounts) (serving : ServeArgs) (app : Application) (sessions : List Session) (events : List ℕ) (result : Result (Unit {0}) ExitReason)
     → HasBegun (commands.Serve serving) files (span audit aimed) (span before opened) app sessions events → after.store ≡ opened.store

@@ -36,29 +36,29 @@ use Rattle.jac_serve_events.specs.Script.{Script, script_of}
 use Rattle.jac_dispatch.specs.Answered.{IsAnswerMade, IsEntryOf, answer_spec_of}
 use Rattle.jac_serve_events.specs.Serve.{IsServed}
 
--- how many entries are of requests by this method
+-- The number of entries for requests with this method.
 abbrev pub asks_by : List ℕ → List LogEntry → ℕ
 asks_by method [] = 0
 asks_by method (entry ∷ log) = (if bytes_eq (method_of entry.subject) method then 1 else 0)
     + asks_by method log
 
--- how many bytes their bodies have
+-- The number of bytes in their bodies.
 abbrev pub bytes_in : List LogEntry → ℕ
 bytes_in [] = 0
 bytes_in (entry ∷ log) = length entry.answer.body + bytes_in log
 
--- how many labels an audit line names
+-- The number of labels that an audit line names.
 abbrev pub labels_shown : Option (List ℕ) → ℕ
 labels_shown None = 0
 labels_shown (Some labels) = length labels
 
--- how many labels the audit lines of the pages of GET name
+-- The number of labels in the audit lines of GETs.
 abbrev pub labels_in : List LogEntry → ℕ
 labels_in [] = 0
 labels_in (entry ∷ log) = (if bytes_eq (method_of entry.subject) (codes "GET")
     then labels_shown entry.answer.shown else 0) + labels_in log
 
--- a log in numbers
+-- The summary of a log.
 abbrev pub summary_of : List LogEntry → Summary
 summary_of log = record {
   asks = length log;
@@ -68,11 +68,11 @@ summary_of log = record {
   labels = labels_in log;
 }
 
--- what is counted of one answer
+-- The tally of one answer.
 abbrev pub tally_of : Answer → Tally
 tally_of answer = record { bytes = length answer.body; labels = labels_shown answer.shown }
 
--- one more request of this method was answered
+-- The summary after one more request with this method was answered.
 abbrev pub summary_after : Summary → List ℕ → Tally → Summary
 summary_after summary method tally = record {
   asks = summary.asks + 1;
@@ -82,14 +82,14 @@ summary_after summary method tally = record {
   labels = summary.labels + (if bytes_eq method (codes "GET") then tally.labels else 0);
 }
 
--- each number of a summary has its bound by the number of its requests
+-- The bounds of a summary's numbers, by the number of its requests.
 pub record IsBounded (summary : Summary) : Type 0 where
   pub posts : summary.posts ≤ summary.asks
   pub gets : summary.gets ≤ summary.asks
   pub bytes : summary.bytes ≤ summary.asks * 2 ^ 64
   pub labels : summary.labels ≤ summary.asks * 2 ^ 64
 
--- `asks N posts P gets G bytes B labels L`
+-- The first part of the line `asks N posts P gets G bytes B labels L`.
 abbrev pub counts_text : Summary → List ℕ
 counts_text summary = codes "asks " ++ decimal summary.asks ++ codes " posts " ++ decimal
     summary.posts ++ codes " gets "
@@ -101,27 +101,29 @@ sizes_text summary = decimal summary.gets ++ codes " bytes " ++ decimal summary.
 abbrev pub summary_line : Summary → List ℕ
 summary_line summary = counts_text summary ++ sizes_text summary ++ codes "\n"
 
--- a request was answered and its answer stored; this follows the number of its audit line, and this
--- is counted of it
+-- A request was answered, and what it leaves was stored. `audit` is the audit line without its
+-- number, and `tally` counts the answer.
 pub record IsCounted (app : Application) (k : Span RunSeen) (ask : Ask) (audit : List ℕ)
     (tally : Tally) : Type 0 where
   pub reply : List ℕ
   pub made : IsAnswerMade false app k ways.Line ask reply audit
   pub tally_is : tally ≡ tally_of made.answer
 
--- an audit line is put, and this is counted
+-- An audit line is put, with this tally.
 abbrev pub PutsTally : List ℕ → Tally → Result Tally Failed → List ℕ → Type 0
 PutsTally line tally (Ok counts) put = (put ≡ line) × (counts ≡ tally)
 PutsTally line tally (Err failed) put = IsFront put line
 
--- the request of an `ask` line is answered, after so many others, and its audit line is torn
+-- The request of an `ask` line is answered after `served` others, and only a prefix of its audit
+-- line is put.
 abbrev pub TearsAsk : Application → Span RunSeen → ℕ → Ask → List ℕ → Type 0
 TearsAsk app k served ask audit =
     (answer : Answer) × IsEntryOf false app k (whole ask false) answer
     × IsFront audit (audit_text (served + 1) answer.status ask.viewer answer.shown
     answer.consulted)
 
--- or it is put whole, and this is counted
+-- The request of an `ask` line is answered. Its audit line is put whole, with this tally, or only a
+-- prefix of it is put.
 abbrev pub TalliesAsk : Application → Span RunSeen → ℕ → Ask → Result Tally Failed → List ℕ → Type 0
 TalliesAsk app k served ask (Ok tally) audit =
     (answer : Answer) × IsEntryOf false app k (whole ask false) answer
@@ -129,7 +131,7 @@ TalliesAsk app k served ask (Ok tally) audit =
     × (tally ≡ tally_of answer)
 TalliesAsk app k served ask (Err failed) audit = TearsAsk app k served ask audit
 
--- a request is answered and counted
+-- A request is answered and counted.
 abbrev pub TalliesBy : Application → Span RunSeen → Summary → List ℕ → Ask
     → Result Summary DemoFault → List ℕ → Type 0
 TalliesBy app k summary method ask (Ok new) audit =
@@ -146,7 +148,7 @@ TalliesEvent app k summary (Begin c) result audit = ⊥
 TalliesEvent app k summary (Piece c bytes) result audit = ⊥
 TalliesEvent app k summary (Finish c) result audit = ⊥
 
--- a line by what it writes down: nothing or a request, unless memory runs out
+-- A line is served, which is empty or describes a request. If memory runs out, nothing happens.
 abbrev pub TalliesLine : Application → Span RunSeen → Summary → Option (Option Event)
     → Result Summary DemoFault → List ℕ → Type 0
 TalliesLine app k summary written (Err faults.Memory) audit = (audit ≡ []) × IsStill k
@@ -156,14 +158,14 @@ TalliesLine app k summary (Some None) result audit = (result ≡ Ok summary) × 
 TalliesLine app k summary (Some (Some event)) result audit = TalliesEvent app k summary event result
     audit
 
--- these events were served, or, where it may stop early, the first of them; the audit has the lines
--- of the log
+-- These events were served, or the first of them if serving may stop early. The audit has the lines
+-- of the log.
 pub record Tallied (early : Bool) (app : Application) (k : Span RunSeen) (events : List Event)
     (log : List LogEntry) (audit : List ℕ) : Type 0 where
   pub served : IsServed early (answer_spec_of false app []) k events log
   pub audit_text : audit ≡ audit_lines log
 
--- the first events were served, and the audit line of the last of these was torn
+-- The first events were served, and only a prefix of the last audit line was put.
 pub record TalliedTorn (app : Application) (k : Span RunSeen) (events : List Event)
     (audit : List ℕ) : Type 0 where
   pub log : List LogEntry
@@ -173,7 +175,7 @@ pub record TalliedTorn (app : Application) (k : Span RunSeen) (events : List Eve
   pub torn : IsFront more (audit_line (length log + 1) entry)
   pub audit_text : audit ≡ audit_lines log ++ more
 
--- how serving a script in silence ends
+-- How serving a script without output ends.
 abbrev pub Tallies : Application → Span RunSeen → Script → Result Summary DemoFault → List ℕ
     → Type 0
 Tallies app k script (Ok summary) audit =
@@ -183,18 +185,18 @@ Tallies app k script (Err faults.Memory) audit = (log : List LogEntry)
     × Tallied true app k script.events log audit
 Tallies app k script (Err faults.Write) audit = TalliedTorn app k script.events audit
 
--- the generated requests, none of whose lines is refused
+-- The generated requests. None of their lines is refused.
 abbrev pub demo_script : ℕ → Script
 demo_script count = script_of (demo_text count)
 
--- the same, where something was kept at the end for those who looked
+-- The same, with something cached for viewers at the end.
 abbrev pub TalliesLeaving : Application → Span RunSeen → Script → Result Summary DemoFault → List ℕ
     → Type 0
 TalliesLeaving app k script result audit =
     (left : List ViewerEntry) × Tallies app (leaving k left) script result audit
 
--- a store without a name was attached, and the requests were answered on what it keeps. This was
--- kept at the end for those who looked
+-- A store without a name was attached, and the requests were answered on it. `left` is what was
+-- cached for viewers at the end.
 pub record IsTalliedOn (app : Application) (k : Span RunSeen) (count : ℕ)
     (result : Result Summary DemoFault) (audit : List ℕ) : Type 0 where
   pub opened : KeeperSeen
@@ -202,7 +204,7 @@ pub record IsTalliedOn (app : Application) (k : Span RunSeen) (count : ℕ)
   pub left : List ViewerEntry
   pub tallies : Tallies app (opened_on opened k left) (demo_script count) result audit
 
--- how the steps from the attaching on end
+-- How the steps from the attachment on end.
 abbrev pub EndsTallying : Application → Span RunSeen → ℕ → Result Summary ExitReason → List ℕ → Type
     0
 EndsTallying app k count (Ok summary) audit = IsTalliedOn app k count (Ok summary) audit
@@ -216,15 +218,15 @@ EndsTallying app k count (Err (exits.OtherStore stored wanted)) audit =
     (wanted ≡ schema_text app) × IsOther (keepers k) stored wanted × IsUnstarted k [] audit
 EndsTallying app k count (Err exit_reason) audit = ⊥
 
--- the line of the summary is put, or the front of it where that put fails; no line where there is
--- no summary
+-- The line of the summary is put. If that put fails, a prefix of it is. If there is no summary,
+-- there is no line.
 abbrev pub PutsSummary : Span SinkSeen → Result Summary ExitReason → Result (Unit {0}) ExitReason →
     List ℕ
     → Type 0
 PutsSummary out (Ok summary) result put = PutsText out (summary_line summary) result put
 PutsSummary out (Err exit_reason) result put = (result ≡ Err exit_reason) × (put ≡ [])
 
--- the requests were counted, and their summary is told
+-- The requests were counted, and their summary is put.
 pub record IsDemoTold (s : Sinks) (app : Application) (k : Span RunSeen) (count : ℕ)
     (result : Result (Unit {0}) ExitReason) (out audit : List ℕ) : Type 0 where
   pub ended : Result Summary ExitReason
@@ -232,14 +234,14 @@ pub record IsDemoTold (s : Sinks) (app : Application) (k : Span RunSeen) (count 
   pub rose : ended ≡ Err exits.WriteFault → Rose s.audit.before.faults s.audit.after.faults
   pub told : PutsSummary s.out ended result out
 
--- the audit's aim failed
+-- The audit couldn't be aimed.
 pub record IsUnaimed (s : Sinks) (k : Span RunSeen) (result : Result (Unit {0}) ExitReason)
     (out audit : List ℕ) : Type 0 where
   pub fault : result ≡ Err exits.WriteFault
   pub rose : Rose s.audit.before.faults s.audit.after.faults
   pub untouched : IsLeftAlone s.audit k out audit
 
--- how the steps from the audit's aim on end
+-- How the steps from the aim of the audit on end.
 abbrev pub EndsCounting : Sinks → Application → Span RunSeen → ℕ → Result (Unit {0}) ExitReason →
     List ℕ
     → List ℕ → Type 0
@@ -247,21 +249,21 @@ EndsCounting s app k count result out audit =
     IsUnaimed s k result out audit ⊎ (IsAimed None s.audit
     × IsDemoTold s app k count result out audit)
 
--- the calendar was read, and the requests were answered
+-- The calendar was read, and the requests were answered.
 pub record IsDemo (s : Sinks) (k : Span RunSeen) (count : ℕ) (result : Result (Unit {0}) ExitReason)
     (out audit : List ℕ) : Type 0 where
   pub app : Application
   pub calendar : IsApplication calendar_text app
   pub ends : EndsCounting s app k count result out audit
 
--- the calendar wasn't read, or memory ran out before the audit was aimed
+-- The calendar wasn't read, or memory ran out before the audit was aimed.
 abbrev pub IsUncounted : Sinks → Span RunSeen → Result (Unit {0}) ExitReason → List ℕ → List ℕ
     → Type 0
 IsUncounted s k (Ok done) out audit = ⊥
 IsUncounted s k (Err exit_reason) out audit = IsUnopened calendar_text exit_reason
     × IsLeftAlone s.audit k out audit
 
--- what the steps of a demo put, and why they ended
+-- What the steps of a demo put, and why they ended.
 abbrev pub EndsDemo : Sinks → Span RunSeen → ℕ → Result (Unit {0}) ExitReason → List ℕ → List ℕ
     → Type 0
 EndsDemo s k count result out audit = IsUncounted s k result out audit

@@ -21,8 +21,8 @@ use Rattle.jac_command_base.specs.Attached.{IsAttached, IsOther}
 use Rattle.jac_command_base.specs.Early.{IsEndedEarly}
 use Rattle.jac_app.specs.Held.{held_of, leaving, opened_on, IsUnstarted, IsLeftAlone}
 
--- how the events of a script are served on an attached store: what was torn was so on the sink that
--- failed
+-- How the events of a script are served on a store that was attached. If only a prefix of a line
+-- was put, the sink of that line failed.
 abbrev pub EndsServed : AnswerSpec → Span RunSeen → Script → Result (Unit {0}) ExitReason → Sinks
     → List ℕ → List ℕ → Type 0
 EndsServed x k script (Ok done) s out audit =
@@ -33,14 +33,14 @@ EndsServed x k script (Err exits.WriteFault) s out audit = PutsTorn x k script s
 EndsServed x k script (Err exits.Memory) s out audit = PutsServed true x k script out audit
 EndsServed x k script (Err exit_reason) s out audit = ⊥
 
--- the same, where something was kept at the end for those who looked
+-- The same, with something cached for viewers at the end.
 abbrev pub EndsServedLeaving : AnswerSpec → Span RunSeen → Script → Result (Unit {0}) ExitReason
     → Sinks → List ℕ → List ℕ → Type 0
 EndsServedLeaving x k script result s out audit =
     (left : List ViewerEntry) × EndsServed x (leaving k left) script result s out audit
 
--- a store was attached, and the events were served from what it keeps; attaching it split no facet
--- and evaluated no policy. This was kept at the end for those who looked
+-- A store was attached, and the events were served from it. Attaching it split no facet and
+-- evaluated no policy. `left` is what was cached for viewers at the end.
 pub record IsServedOn (command : Command) (app : Application) (sessions : List Session)
     (k : Span RunSeen) (script : Script) (result : Result (Unit {0}) ExitReason) (s : Sinks)
     (out audit : List ℕ) : Type 0 where
@@ -50,7 +50,7 @@ pub record IsServedOn (command : Command) (app : Application) (sessions : List S
   pub ends : EndsServed (answer_spec_of (lazy_of command) app sessions)
       (opened_on opened k left) script result s out audit
 
--- how the steps from the attaching on end
+-- How the steps from the attachment on end.
 abbrev pub EndsAttaching : Command → Application → List Session → Span RunSeen → Script
     → Result (Unit {0}) ExitReason → Sinks → List ℕ → List ℕ → Type 0
 EndsAttaching command app sessions k script (Err exits.StoreFault) s out audit =
@@ -63,7 +63,8 @@ EndsAttaching command app sessions k script (Err exits.Memory) s out audit =
 EndsAttaching command app sessions k script result s out audit =
     IsServedOn command app sessions k script result s out audit
 
--- how the steps from the audit's aim on end: that failed, or a put after it
+-- How the steps from the aim of the audit on end. A write failure is that of the aim, or of a put
+-- after it.
 abbrev pub EndsServing : Sinks → Command → Application → List Session → Span RunSeen → Script
     → Result (Unit {0}) ExitReason → List ℕ → List ℕ → Type 0
 EndsServing s command app sessions k script (Err exits.WriteFault) out audit =
@@ -74,7 +75,7 @@ EndsServing s command app sessions k script result out audit =
     IsAimed (audit_of command) s.audit
     × EndsAttaching command app sessions k script result s out audit
 
--- the files were read, and then the events were served
+-- The files were read, and then the events were served.
 pub record IsServing (seen : Sight) (counts : Span RunCounts) (command : Command)
     (result : Result (Unit {0}) ExitReason) (out audit : List ℕ) : Type 0 where
   pub app : Application
@@ -85,7 +86,7 @@ pub record IsServing (seen : Sight) (counts : Span RunCounts) (command : Command
       (script_of events)
       result out audit
 
--- what the steps of a replay put, and why they ended
+-- What the steps of a replay put, and why they ended.
 abbrev pub EndsReplay : Sight → Span RunCounts → Command → Result (Unit {0}) ExitReason
     → List ℕ → List ℕ → Type 0
 EndsReplay seen counts command result out audit =

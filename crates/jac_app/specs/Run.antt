@@ -44,12 +44,12 @@ abbrev pub usage_line : List ℕ
 usage_line = codes
     "usage: jac check APP, replay APP EVENTS, serve APP PORT COUNT, demo N, dump APP LABELS, upgrade OLD NEW, why APP VIEWER; options --db FILE --sessions FILE --audit FILE --lazy\n"
 
--- the door wasn't called
+-- The door wasn't called.
 abbrev pub IsUncalled : {L : Type 0} → Span (DoorSeen L) → Type 0
 IsUncalled door = door.after ≡ door.before
 
--- what the steps of a command put, and why they ended; those of `serve` alone call the door, a
--- check, a dump and a `why` split no facet, and the first two evaluate no policy
+-- What the steps of a command put, and why they ended. Only those of `serve` call the door. A
+-- check, a dump and a `why` split no facet, and the first two evaluate no policy.
 abbrev pub Ends : {L : Type 0} → (L → LinkSeen) → Sight → Span (DoorSeen L) → Span RunCounts
     → Command → Result (Unit {0}) ExitReason → List ℕ → List ℕ → Type 0
 Ends line seen door counts (commands.Check app) result out audit =
@@ -68,8 +68,8 @@ Ends line seen door counts (commands.Why explaining) result out audit =
     EndsExplain seen (commands.Why explaining) result out audit × IsUncalled door
     × (counts.after.splits ≡ counts.before.splits)
 
--- the words are a command whose steps were run until out stood so, and then the line of its status
--- was put: what fails of that line is no cause of how the steps ended
+-- The words are a command. Its steps were run up to the state `standing` of `out`, and then the
+-- line of its status was put. If that put fails, this isn't the cause for which the steps ended.
 pub record RunsCommand {L : Type 0} (line : L → LinkSeen) (seen : Sight) (door : Span (DoorSeen L))
     (counts : Span RunCounts) (words : List (List ℕ)) (status : Status) (out audit : List ℕ)
     : Type 0 where
@@ -85,7 +85,7 @@ pub record RunsCommand {L : Type 0} (line : L → LinkSeen) (seen : Sight) (door
   pub later : standing.faults ≤ seen.out.after.faults
   pub out_text : out ≡ served ++ last
 
--- the words are no command
+-- The words are no command.
 pub record RunsNothing {L : Type 0} (seen : Sight) (door : Span (DoorSeen L))
     (counts : Span RunCounts) (words : List (List ℕ)) (status : Status) (out audit : List ℕ)
     : Type 0 where
@@ -95,7 +95,7 @@ pub record RunsNothing {L : Type 0} (seen : Sight) (door : Span (DoorSeen L))
   pub uncalled : IsUncalled door
   pub unsplit : IsStill counts
 
--- memory ran out as the words were read
+-- Memory ran out while the words were read.
 pub record RunsOut {L : Type 0} (seen : Sight) (door : Span (DoorSeen L)) (counts : Span RunCounts)
     (status : Status) (out audit : List ℕ) : Type 0 where
   pub closes : Closes seen.out (codes "memory\n") statuses.Memory out status
@@ -110,14 +110,14 @@ Runs line seen door counts words status out audit =
     ⊎ (RunsNothing seen door counts words status out audit
     ⊎ RunsOut seen door counts status out audit)
 
--- where a sessions file is named it is there, isn't too long, and each of its lines has a form
+-- If a sessions file is named, it is there, isn't too long, and each of its lines has a form.
 abbrev pub CanHaveSessions : FilesSeen → Option (List ℕ) → Type 0
 CanHaveSessions files None = ⊤
 CanHaveSessions files (Some name) =
     (bytes : List ℕ) × (sessions : List Session) × (files.file name ≡ Some bytes)
     × (length bytes ≤ 1048576) × (sessions_in bytes ≡ Ok sessions)
 
--- the application's file is there, and spells one
+-- The application's file is there, and spells an application.
 pub record CanOpen (seen : Sight) (command : Command) (app : Application) : Type 0 where
   pub bytes : List ℕ
   pub told : IsTrue seen.files.after.tells
@@ -126,7 +126,7 @@ pub record CanOpen (seen : Sight) (command : Command) (app : Application) : Type
   pub no_read_fault : Rose seen.files.before.faults seen.files.after.faults → ⊥
   pub no_write_fault : AWriteFailed (sinks_of seen) → ⊥
 
--- everything that a replay needs is there, and no read or put fails
+-- Everything that a replay needs is there, and no read or put fails.
 pub record CanReplay (seen : Sight) (words : List (List ℕ)) : Type 0 where
   pub replay : Replay
   pub app : Application
@@ -138,7 +138,7 @@ pub record CanReplay (seen : Sight) (words : List (List ℕ)) : Type 0 where
   pub short : length events ≤ 16777216
   pub forms : (script_of events).refused ≡ None
 
--- the same of serving a door, of which no call fails
+-- The same for serving a door, and no call of the door fails.
 pub record CanServe {L : Type 0} (seen : Sight) (door : Span (DoorSeen L)) (words : List (List ℕ)) :
     Type 0 where
   pub serving : ServeArgs
@@ -148,28 +148,28 @@ pub record CanServe {L : Type 0} (seen : Sight) (door : Span (DoorSeen L)) (word
   pub sessions_file : CanHaveSessions seen.files.before serving.sessions
   pub no_door_fault : Rose door.before.faults door.after.faults → ⊥
 
--- the same of a check
+-- The same for a check.
 pub record CanCheck (seen : Sight) (words : List (List ℕ)) : Type 0 where
   pub name : List ℕ
   pub app : Application
   pub is_command : command_of words ≡ Some (commands.Check name)
   pub opens : CanOpen seen (commands.Check name) app
 
--- the same of a dump
+-- The same for a dump.
 pub record CanDump (seen : Sight) (words : List (List ℕ)) : Type 0 where
   pub dumping : DumpArgs
   pub app : Application
   pub is_command : command_of words ≡ Some (commands.Dump dumping)
   pub opens : CanOpen seen (commands.Dump dumping) app
 
--- the same of a `why`
+-- The same for a `why`.
 pub record CanExplain (seen : Sight) (words : List (List ℕ)) : Type 0 where
   pub explaining : WhyArgs
   pub app : Application
   pub is_command : command_of words ≡ Some (commands.Why explaining)
   pub opens : CanOpen seen (commands.Why explaining) app
 
--- the same of an upgrade, where the second application's file is there, and spells one
+-- The same for an upgrade. The second application's file is there, and spells an application.
 pub record CanUpgrade (seen : Sight) (words : List (List ℕ)) : Type 0 where
   pub upgrading : UpgradeArgs
   pub old : Application
@@ -180,20 +180,20 @@ pub record CanUpgrade (seen : Sight) (words : List (List ℕ)) : Type 0 where
   pub next_file : seen.files.before.file upgrading.next ≡ Some next_bytes
   pub next_application : IsApplication next_bytes new
 
--- whether the application that the second file spells extends the one that the first spells
+-- Whether the application that the second file spells extends that of the first.
 abbrev pub Extends : (seen : Sight) (words : List (List ℕ)) → CanUpgrade seen words → Bool → Type 0
 Extends seen words can extends =
     (old new : Application) → IsApplication can.opens.bytes old → IsApplication can.next_bytes new
     → is_none (models_lack 0 old.models new.models) ≡ extends
 
--- no put of a demo fails
+-- No put of a demo fails.
 pub record CanDemo (seen : Sight) (words : List (List ℕ)) : Type 0 where
   pub count : ℕ
   pub is_command : command_of words ≡ Some (commands.Demo count)
   pub no_write_fault : AWriteFailed (sinks_of seen) → ⊥
 
--- the bytes that a command reads an application in: those of its file, of either file of an
--- upgrade, or the calendar's
+-- The bytes from which a command reads an application: its file, either file of an upgrade, or the
+-- calendar.
 abbrev pub IsSource : Sight → Command → List ℕ → Type 0
 IsSource seen (commands.Demo n) bytes = bytes ≡ calendar_text
 IsSource seen (commands.Upgrade upgrading) bytes =
@@ -201,12 +201,12 @@ IsSource seen (commands.Upgrade upgrading) bytes =
     ⊎ IsRead seen (commands.Upgrade upgrading) roles.New bytes
 IsSource seen command bytes = IsRead seen command roles.App bytes
 
--- the application that they spell
+-- The application that is read from them, the first of an upgrade.
 abbrev pub Sources : Sight → Command → Application → Type 0
 Sources seen (commands.Demo n) app = IsApplication calendar_text app
 Sources seen command app = HasApplication seen command app
 
--- each status comes for its cause alone
+-- The cause of each status.
 abbrev pub ComesFor : {L : Type 0} → Sight → Span (DoorSeen L) → List (List ℕ) → Status → Type 0
 ComesFor seen door words statuses.Done = (command : Command) × (command_of words ≡ Some command)
 ComesFor seen door words statuses.Usage = command_of words ≡ None
@@ -240,8 +240,8 @@ ComesFor seen door words statuses.TooLong =
     (command : Command) × (command_of words ≡ Some command)
     × ((role : Role) × IsReached seen command role × IsLong seen command role)
 
--- no call of a keeper that tells fails, and what it stored has the schema of the application that
--- the command reads, or the store is new
+-- The contents of the keeper are known, and no call of it fails. The stored schema is that of the
+-- application that the command reads, or the store is new.
 pub record CanAttach (seen : Sight) (words : List (List ℕ)) : Type 0 where
   pub told : IsTrue seen.keeper.after.tells
   pub no_fault : Rose seen.keeper.before.faults seen.keeper.after.faults → ⊥
@@ -250,17 +250,18 @@ pub record CanAttach (seen : Sight) (words : List (List ℕ)) : Type 0 where
       → (seen.keeper.before.store.schema ≡ None)
       ⊎ (seen.keeper.before.store.schema ≡ Some (schema_text app))
 
--- all was served, or memory ran out, or the store failed or has another schema
+-- All was served, or memory ran out, or the store failed or has another schema.
 abbrev pub IsCompleted : Status → Type 0
 IsCompleted status = (status ≡ statuses.Done) ⊎ (status ≡ statuses.Memory)
     ⊎ (status ≡ statuses.StoreFault) ⊎ (status ≡ statuses.OtherStore)
 
--- a run: what was put on both sinks is what the command's steps put, by the status, and what the
--- keeper keeps at the end shows under every assignment the world that the ordinary interpreter
--- leaves; a door that tells told before, and its count didn't fall; it asked for the files that its
--- command names, in order, and for no other; the status has its cause; and where nothing is missing
--- and nothing fails, all is done, unless memory runs out. So many facets were split, and policies
--- evaluated, before and after
+-- A run. What was put on both sinks is what the command's steps put, by the status. What the keeper
+-- stores at the end shows, under every assignment, the world that the ordinary interpreter leaves.
+-- If the contents of the door are known at the end, they were known before, and its count of faults
+-- didn't fall. The run asked for the files that its command names, in order, and for no other. The
+-- status has its cause. If nothing is missing and nothing fails, all is done, unless memory runs
+-- out. `counts` are the facets that were split and the policies that were evaluated, before and
+-- after.
 pub record IsRun {L : Type 0} (line : L → LinkSeen) (seen : Sight) (door : Span (DoorSeen L))
     (counts : Span RunCounts) (words : List (List ℕ)) (status : Status) : Type 0 where
   pub ran : WentAimed (sinks_of seen) (Runs line seen door counts words status)
@@ -276,6 +277,6 @@ pub record IsRun {L : Type 0} (line : L → LinkSeen) (seen : Sight) (door : Spa
       → (status ≡ statuses.UpgradeRefused) ⊎ (status ≡ statuses.Memory)
   pub demos : CanDemo seen words → IsCompleted status
   pub checks : CanCheck seen words → (status ≡ statuses.Done) ⊎ (status ≡ statuses.Memory)
-  -- and then it isn't the store that ends it, where that can be attached
+  -- If the store can be attached, it isn't the store that ends the run.
   pub attaches : CanAttach seen words
       → ¬ (status ≡ statuses.StoreFault) × ¬ (status ≡ statuses.OtherStore)

@@ -26,19 +26,19 @@ use Rattle.jac_connections.specs.Door.{AreLinksServed}
 use Rattle.jac_connections.specs.Link.{IsLinkServed}
 use Rattle.jac_connections.specs.declared.link.Halt.{Halt}
 
--- `served C connections, K replies`
+-- `served C connections, K replies`.
 abbrev pub served_line : Tally → List ℕ
 served_line tally = codes "served " ++ decimal tally.connections ++ codes " connections, "
     ++ decimal tally.replies ++ codes " replies\n"
 
--- why serving a door that halted ends the command
+-- The reason for which a door that halted ends the command.
 abbrev pub exit_reason_of_halt : DoorHalt → ExitReason
 exit_reason_of_halt halts.Door = exits.DoorFault
 exit_reason_of_halt halts.Write = exits.WriteFault
 exit_reason_of_halt halts.Memory = exits.Memory
 
--- how serving so many connections at most ends, with the line that tells how many there were: a put
--- failed on the audit, within a connection, or all were served and it was that of this line
+-- How serving at most `most` connections ends, with the line that counts them. If a write failed,
+-- it was on the audit, within a connection, or it was that of this line after all were served.
 abbrev pub EndsConnections : {L : Type 0} → (L → LinkSeen) → AnswerSpec → ℕ → Span (DoorSeen L)
     → Span RunSeen → Result (Unit {0}) ExitReason → Sinks → List ℕ → List ℕ → Type 0
 EndsConnections line x most door k (Ok done) s out audit =
@@ -54,7 +54,7 @@ EndsConnections line x most door k (Err exits.Memory) s out audit =
     AreLinksServed line x most door k (Err halts.Memory) audit × (out ≡ [])
 EndsConnections line x most door k (Err exit_reason) s out audit = ⊥
 
--- a door that tells listened on the port, and its connections were served
+-- The door listened on this port, if its contents are known, and its connections were served.
 pub record IsListenedAt {L : Type 0} (line : L → LinkSeen) (app : Application)
     (sessions : List Session) (serving : ServeArgs) (door : Span (DoorSeen L)) (k : Span RunSeen)
     (result : Result (Unit {0}) ExitReason) (s : Sinks) (out audit : List ℕ) : Type 0 where
@@ -62,7 +62,7 @@ pub record IsListenedAt {L : Type 0} (line : L → LinkSeen) (app : Application)
   pub ends : EndsConnections line (answer_spec_of serving.lazy app sessions) serving.count door k
       result s out audit
 
--- a door listens where it did, no link of it was served, and nothing was put
+-- A door listens where it did before, no link of it was served, and nothing was put.
 pub record IsUnheard {L : Type 0} (door : Span (DoorSeen L)) (k : Span RunSeen)
     (out audit : List ℕ) : Type 0 where
   pub same_port : IsTrue door.after.tells → door.after.port ≡ door.before.port
@@ -72,7 +72,7 @@ pub record IsUnheard {L : Type 0} (door : Span (DoorSeen L)) (k : Span RunSeen)
   pub no_out : out ≡ []
   pub no_audit : audit ≡ []
 
--- how the steps from the listening on end
+-- How the steps from the listening on end.
 abbrev pub EndsDoor : {L : Type 0} → (L → LinkSeen) → Application → List Session → ServeArgs
     → Span (DoorSeen L) → Span RunSeen → Result (Unit {0}) ExitReason → Sinks → List ℕ → List ℕ
     → Type 0
@@ -83,7 +83,7 @@ EndsDoor line app sessions serving door k (Err exits.DoorFault) s out audit =
 EndsDoor line app sessions serving door k result s out audit =
     IsListenedAt line app sessions serving door k result s out audit
 
--- the same, where something was kept at the end for those who looked
+-- The same, with something cached for viewers at the end.
 abbrev pub EndsDoorLeaving : {L : Type 0} → (L → LinkSeen) → Application → List Session → ServeArgs
     → Span (DoorSeen L) → Span RunSeen → Result (Unit {0}) ExitReason → Sinks → List ℕ → List ℕ
     → Type 0
@@ -91,14 +91,14 @@ EndsDoorLeaving line app sessions serving door k result s out audit =
     (left : List ViewerEntry)
     × EndsDoor line app sessions serving door (leaving k left) result s out audit
 
--- one link was served, and something was kept at the end for those who looked
+-- One link was served, with something cached for viewers at the end.
 abbrev pub IsLinkServedLeaving : AnswerSpec → ℕ → ℕ → Span LinkSeen → Span RunSeen → Result ℕ Halt
     → List ℕ → List ℕ → Type 0
 IsLinkServedLeaving x c first link k result out audit =
     (left : List ViewerEntry) × IsLinkServed x c first link (leaving k left) result out audit
 
--- a store was attached, and the connections were served from what it keeps; attaching it split no
--- facet and evaluated no policy. This was kept at the end for those who looked
+-- A store was attached, and the connections were served from it. Attaching it split no facet and
+-- evaluated no policy. `left` is what was cached for viewers at the end.
 pub record IsServedAt {L : Type 0} (line : L → LinkSeen) (app : Application)
     (sessions : List Session) (serving : ServeArgs) (door : Span (DoorSeen L)) (k : Span RunSeen)
     (result : Result (Unit {0}) ExitReason) (s : Sinks) (out audit : List ℕ) : Type 0 where
@@ -107,13 +107,13 @@ pub record IsServedAt {L : Type 0} (line : L → LinkSeen) (app : Application)
   pub left : List ViewerEntry
   pub ends : EndsDoor line app sessions serving door (opened_on opened k left) result s out audit
 
--- no store was attached, and the door wasn't called
+-- No store was attached, and the door wasn't called.
 pub record IsUnserved {L : Type 0} (door : Span (DoorSeen L)) (k : Span RunSeen)
     (out audit : List ℕ) : Type 0 where
   pub unstarted : IsUnstarted k out audit
   pub uncalled : door.after ≡ door.before
 
--- how the steps from the attaching on end
+-- How the steps from the attachment on end.
 abbrev pub EndsAttached : {L : Type 0} → (L → LinkSeen) → Application → List Session → ServeArgs
     → Span (DoorSeen L) → Span RunSeen → Result (Unit {0}) ExitReason → Sinks → List ℕ → List ℕ
     → Type 0
@@ -127,7 +127,8 @@ EndsAttached line app sessions serving door k (Err exits.Memory) s out audit =
 EndsAttached line app sessions serving door k result s out audit =
     IsServedAt line app sessions serving door k result s out audit
 
--- how the steps from the audit's aim on end: that failed, or a put after it
+-- How the steps from the aim of the audit on end. A write failure is that of the aim, or of a put
+-- after it.
 abbrev pub EndsAimed : {L : Type 0} → (L → LinkSeen) → Sinks → Application → List Session →
     ServeArgs
     → Span (DoorSeen L) → Span RunSeen → Result (Unit {0}) ExitReason → List ℕ → List ℕ → Type 0
@@ -139,7 +140,7 @@ EndsAimed line s app sessions serving door k result out audit =
     IsAimed serving.audit s.audit
     × EndsAttached line app sessions serving door k result s out audit
 
--- the files were read, and then the connections were served
+-- The files were read, and then the connections were served.
 pub record IsServer {L : Type 0} (line : L → LinkSeen) (seen : Sight) (door : Span (DoorSeen L))
     (counts : Span RunCounts) (serving : ServeArgs) (result : Result (Unit {0}) ExitReason)
     (out audit : List ℕ)
@@ -151,7 +152,7 @@ pub record IsServer {L : Type 0} (line : L → LinkSeen) (seen : Sight) (door : 
   pub ends : EndsAimed line (sinks_of seen) app sessions serving door (held_of seen counts)
       result out audit
 
--- what the steps of `serve` put, and why they ended
+-- What the steps of `serve` put, and why they ended.
 abbrev pub EndsServer : {L : Type 0} → (L → LinkSeen) → Sight → Span (DoorSeen L) → Span RunCounts →
     ServeArgs
     → Result (Unit {0}) ExitReason → List ℕ → List ℕ → Type 0

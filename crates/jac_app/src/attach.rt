@@ -14,8 +14,8 @@ use jac_keep::Vault;
 use jac_value::Txt;
 use std::alloc::Global;
 
-/// Attaches the store of this name for the application, whose schema this is, so that its requests
-/// may be answered.
+/// Attaches the store with this name for the application, which has this schema, so that its
+/// requests may be answered.
 pub fn attach<K: Vault>(
     alloc: Global,
     service: &Service,

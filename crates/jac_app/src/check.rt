@@ -15,7 +15,7 @@ use jac_serve_events::put_five;
 use jac_value::Txt;
 use std::alloc::Global;
 
-/// The steps of a check: the application is read, and its counts are put.
+/// The steps of a check. They read the application, and put its counts.
 pub fn check<F: Files, O: Sink, U: AuditSink, K: Keeper>(
     alloc: Global,
     name: &Txt,

@@ -1,15 +1,15 @@
-//! What is allocated and counted as a command runs.
+//! The allocator and the counters of a command.
 ghost use Rattle.std.specs.Prelude.{◌≡◌};
 
 use jac_world::Steps;
 use std::alloc::Global;
 use std::sync::ledger::Ledger;
 
-/// It is made once a run, and lent down.
+/// The allocator and the counters of a run. A run makes it once, and lends it to its steps.
 pub struct Counts<'s, 'e, L: Ledger, M: Ledger> {
-    /// The facets that were split.
+    /// The number of facets that were split.
     pub splits: &'s mut Steps<L>,
-    /// The policies that were asked.
+    /// The number of policy evaluations.
     pub evaluations: &'e mut Steps<M>,
     pub alloc: Global,
 }

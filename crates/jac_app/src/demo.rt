@@ -1,4 +1,4 @@
-//! Generated requests to a calendar, which are answered in silence and counted.
+//! Answers generated requests to a calendar without output, and counts them.
 ghost use Rattle.std.specs.Prelude.{◌≡◌, ◌≤◌, ◌<◌, ◌+◌, ◌-◌, ◌^◌, ◌++◌, IfOk, IfErr, IsTrue, OnErr, Err, Some, None, length, decimal, false};
 ghost use Rattle.std.specs.List.{All};
 ghost use Rattle.jac_demo.specs.Calendar.{calendar_text};
@@ -46,7 +46,7 @@ use jac_world::Steps;
 use std::alloc::Global;
 use std::sync::ledger::Ledger;
 
-/// Why the answering of requests in silence ended early.
+/// Why answering requests without output ended early.
 #[derive(Clone, Copy, PartialEq, Eq)]
 pub enum DemoFault {
     /// A put on the audit failed.
@@ -64,7 +64,7 @@ struct Asking<'e> {
     body: &'e Bytes,
 }
 
-// What follows the number in the audit line of a request, and what is counted of its answer.
+// The audit line of a request without its number, and the tally of its answer.
 #[derive(Drop)]
 struct Counted {
     audit: Txt,
@@ -87,8 +87,8 @@ fn count_answer(alloc: Global, ask: &Ask, answer: &Answer) -> Result<Counted, Me
     Ok(Counted { audit, tally })
 }
 
-// Answers one request and stores what it leaves. What its audit line says is made before, so that
-// nothing is stored without it.
+// Answers one request, and stores what it leaves. Its audit line is made before, so that nothing is
+// stored without it.
 fn answer_counted<K: Keeper, L: Ledger, M: Ledger>(
     dispatcher: &mut AppDispatcher<'_, '_, '_, '_, '_, '_, K, L, M>,
     ask: &Ask,
@@ -121,7 +121,8 @@ fn answer_counted<K: Keeper, L: Ledger, M: Ledger>(
     Ok(counted)
 }
 
-// The same of an `ask` line.
+// The request of an `ask` line is answered. Its audit line is put whole, with this tally, or only a
+// prefix of it is put.
 fn count_ask<K: Keeper, L: Ledger, M: Ledger>(
     dispatcher: &mut AppDispatcher<'_, '_, '_, '_, '_, '_, K, L, M>,
     asking: &Asking<'_>,
@@ -166,7 +167,7 @@ fn count_ask<K: Keeper, L: Ledger, M: Ledger>(
     Ok(counted)
 }
 
-// Puts the audit line of the k-th request, which is given after its number.
+// Puts the audit line of the k-th request. `rest` is the line without its number.
 fn put_counted<U: AuditSink>(
     audit: &mut U,
     k: u64,
@@ -183,7 +184,7 @@ fn put_counted<U: AuditSink>(
     }
 }
 
-// The same of a request that wasn't answered.
+// Puts the audit line of a request that wasn't answered.
 fn put_stopped<U: AuditSink>(
     audit: &mut U,
     k: u64,
@@ -201,8 +202,7 @@ fn put_stopped<U: AuditSink>(
     }
 }
 
-// Answers the request of an `ask` line, of which so many were answered before, and puts its audit
-// line.
+// Answers the request of an `ask` line, after `served` others, and puts its audit line.
 fn tally_ask<U: AuditSink, K: Keeper, L: Ledger, M: Ledger>(
     dispatcher: &mut AppDispatcher<'_, '_, '_, '_, '_, '_, K, L, M>,
     served: u64,
@@ -281,7 +281,7 @@ fn tally_event<U: AuditSink, K: Keeper, L: Ledger, M: Ledger>(
     }
 }
 
-// Serves a line, which is empty or writes down a request.
+// Serves a line, which is empty or describes a request.
 fn tally_line<U: AuditSink, K: Keeper, L: Ledger, M: Ledger>(
     dispatcher: &mut AppDispatcher<'_, '_, '_, '_, '_, '_, K, L, M>,
     summary: Summary,
@@ -372,7 +372,7 @@ fn serve_calendar<U: AuditSink, K: Keeper, L: Ledger, M: Ledger>(
     }
 }
 
-// The same over a dispatcher, which ends after them.
+// The same, with a dispatcher that ends after the requests.
 fn serve_over<U: AuditSink, K: Vault, L: Ledger, M: Ledger>(
     alloc: Global,
     service: &Service,
@@ -458,7 +458,7 @@ fn tally_attached<U: AuditSink, K: Vault, L: Ledger, M: Ledger>(
     }
 }
 
-// The same, and the summary is put.
+// The same, and puts the summary.
 fn tell_attached<O: Sink, U: AuditSink, K: Vault, L: Ledger, M: Ledger>(
     service: &Service,
     schema: Txt,
@@ -494,7 +494,7 @@ fn tell_attached<O: Sink, U: AuditSink, K: Vault, L: Ledger, M: Ledger>(
     }
 }
 
-// Aims the audit at none, attaches the store, and serves the requests.
+// Aims the audit at no file, attaches the store, and serves the requests.
 fn count_calendar<O: Sink, U: AuditSink, K: Vault, L: Ledger, M: Ledger>(
     service: &Service,
     schema: Txt,
@@ -528,7 +528,7 @@ fn count_calendar<O: Sink, U: AuditSink, K: Vault, L: Ledger, M: Ledger>(
     }
 }
 
-// The calendar, as it is served.
+// The calendar, ready to be served.
 fn open_calendar(alloc: Global) -> Result<Service, ExitReason>
     ensures calendar { IfOk result (λ s. IsApplication calendar_text (application_of s)) }
     ensures unopened { IfErr result (IsUnopened calendar_text) }
@@ -550,9 +550,8 @@ fn read_calendar(alloc: Global, text: &Bytes) -> Result<Service, ExitReason>
     }
 }
 
-/// The steps of a demo: the audit is aimed at none, a store without a name is attached, the first
-/// `count` requests of `jac_demo` are answered in silence to its calendar, and their summary is
-/// put.
+/// The steps of a demo. They aim the audit at no file, attach a store without a name, answer the
+/// first `count` requests of `jac_demo` to its calendar without output, and put their summary.
 pub fn demo<O: Sink, U: AuditSink, K: Vault, L: Ledger, M: Ledger>(
     count: u64,
     out: &mut O,

@@ -1,5 +1,4 @@
-//! The program's work between the outside and its bytes: an application is read, and each request
-//! of an events file, or of a door's connections, is answered over a keeper.
+//! The function `run`, which does what a command line says. Its contract is the promise.
 #![tactic(auto)]
 
 mod attach;

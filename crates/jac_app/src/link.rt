@@ -1,4 +1,4 @@
-//! One link is served, as `run` serves each link of a door.
+//! Serves one link, as `run` serves each link of a door.
 ghost use Rattle.std.specs.Prelude.{◌≡◌, ◌<◌, ◌^◌, Err, IsTrue};
 ghost use Rattle.jac_io.specs.Faults.{Rose};
 ghost use Rattle.jac_lang.specs.Mirror.{application_of};
@@ -21,9 +21,9 @@ use jac_world::Steps;
 use std::alloc::Global;
 use std::sync::ledger::Ledger;
 
-/// Serves the connection of this number, after so many replies, over an attached keeper: the count
-/// of its own. What fails of the link ends this connection alone. `run` does the same for each link
-/// of a door.
+/// Serves the connection with this number, after `first` replies, over an attached keeper. Returns
+/// the count of its own replies. A fault of the link ends only this connection. `run` does the same
+/// for each link of a door.
 pub fn serve_link<N: Link, U: AuditSink, K: Keeper, L: Ledger, M: Ledger>(
     alloc: Global,
     service: &Service,

@@ -24,7 +24,7 @@ use jac_world::Steps;
 use std::alloc::Global;
 use std::sync::ledger::Ledger;
 
-// Puts the last line, where the command ended early.
+// Puts the last line, if the command ended early.
 fn finish<O: Sink>(out: &mut O, command: &Command, ended: Result<(), ExitReason>) -> Status
     ensures { Closed (span (O.seen out.old) (O.seen out.new))
         (λ put. Finishes (span (O.seen out.old) (O.seen out.new)) command.now ended put result) }
@@ -63,7 +63,7 @@ fn run_out<O: Sink>(out: &mut O) -> Status
     }
 }
 
-// The steps of the command.
+// Runs the steps of the command.
 fn take_steps<F: Files, O: Sink, U: AuditSink, K: Vault, D: Door, L: Ledger, M: Ledger>(
     command: &Command,
     files: &mut F,
@@ -117,7 +117,7 @@ fn take_steps<F: Files, O: Sink, U: AuditSink, K: Vault, D: Door, L: Ledger, M: 
     }
 }
 
-// The run, as one statement on all that it puts.
+// Runs the words. The contract is one statement on all that is put.
 fn run_words<F: Files, O: Sink, U: AuditSink, K: Vault, D: Door, L: Ledger, M: Ledger>(
     words: &[Txt],
     files: &mut F,
@@ -153,7 +153,7 @@ fn run_words<F: Files, O: Sink, U: AuditSink, K: Vault, D: Door, L: Ledger, M: L
     }
 }
 
-// The same, with each status by its cause.
+// The same. The contract also has the cause of each status.
 fn run_counted<F: Files, O: Sink, U: AuditSink, K: Vault, D: Door, L: Ledger, M: Ledger>(
     words: &[Txt],
     files: &mut F,
@@ -177,30 +177,29 @@ fn run_counted<F: Files, O: Sink, U: AuditSink, K: Vault, D: Door, L: Ledger, M:
     run_words(words, files, out, audit, vault, door, counts)
 }
 
-/// Runs the command that the words give, and puts replies on `out` and the audit's lines on
-/// `audit`. The words are those after the program's name.
+/// Runs the command that the words give. It puts replies on `out` and audit lines on `audit`. The
+/// words are those after the program's name.
 ///
-/// - `check APP` reads the application of a file, and puts how many models and views it has.
+/// - `check APP` reads the application from a file, and puts the numbers of its models and views.
 /// - `replay APP EVENTS` serves the events of a file, one after another, with the application of
-///   another, on what the store of `--db FILE` keeps, or on a new one that lasts as long as the
-///   program. With `--audit FILE` the audit is aimed at that file, else at none. With `--sessions
-///   FILE` a token has the viewer that its line in that file gives it, else nobody looks by any
-///   token. With `--lazy` a page of a `GET` is made after only the labels are settled that it
-///   consults.
-/// - `serve APP PORT COUNT` serves the application of a file on a port, to so many connections one
-///   after another, or to fewer where no more come, on the store and with the files of the same
-///   options as `replay`, and puts one line that counts them: `served C connections, K replies`. A
-///   connection that fails ends alone.
+///   another file. The store is that of `--db FILE`, or a new one that lasts as long as the
+///   program. With `--audit FILE` the audit goes to that file, and without it nowhere. With
+///   `--sessions FILE` a token has the viewer that its line in that file gives it, and without it
+///   no token has a viewer. With `--lazy` a page of a `GET` is made after only those labels are
+///   settled that it consults.
+/// - `serve APP PORT COUNT` serves the application of a file on a port, to COUNT connections one
+///   after another, or to fewer if no more come. It has the same options as `replay`. It puts one
+///   line that counts them: `served C connections, K replies`. A connection that fails ends alone.
 /// - `demo N` serves N generated requests to a calendar on a new store, without their replies, and
 ///   puts one line that counts them: `asks N posts P gets G bytes B labels L`.
-/// - `dump APP LABELS` puts a line for each record that the labels show of the store of `--db
-///   FILE`, or of a new one, and the number of the next request.
-/// - `upgrade OLD NEW` brings the records of the store of `--db FILE` from one application to the
+/// - `dump APP LABELS` puts a line for each record that is visible if these labels are shown, and
+///   the number of the next request. The store is that of `--db FILE`, or a new one.
+/// - `upgrade OLD NEW` upgrades the records of the store of `--db FILE` from one application to the
 ///   next, which extends it, all or nothing, and puts how many they are: `upgraded R records`.
-/// - `why APP VIEWER` puts the labels that the viewer is shown of the store of `--db FILE`, or of a
-///   new one, and of each other live label which policy stands against it.
+/// - `why APP VIEWER` puts the labels that the viewer is shown, and for each other live label the
+///   policy that prevents it. The store is that of `--db FILE`, or a new one.
 ///
-/// A status other than `Done` has its line as the last one on `out`.
+/// If the status isn't `Done`, its line is the last one on `out`.
 pub fn run<F: Files, O: Sink, U: AuditSink, K: Vault, D: Door, L: Ledger, M: Ledger>(
     alloc: Global,
     words: &[Txt],
@@ -212,11 +211,11 @@ pub fn run<F: Files, O: Sink, U: AuditSink, K: Vault, D: Door, L: Ledger, M: Led
     splits: &mut Steps<L>,
     evaluations: &mut Steps<M>,
 ) -> Status
-    // Nothing was attached yet: the run does it.
+    // The vault wasn't called yet: the run attaches the store.
     requires first { (K.seen vault.old).store.called ≡ false }
 
-    // Every byte that is put, every page and the state at the end, by the status; the files that
-    // are asked for; each status by its cause.
+    // By the status: every byte that is put, every page, and the state at the end. Also the files
+    // that are asked for, and the cause of each status.
     ensures { IsRun D.Line.seen (sight (F.seen files.old) (F.seen files.new) (O.seen out.old)
         (O.seen out.new) (U.seen audit.old) (U.seen audit.new) (K.seen vault.old)
         (K.seen vault.new))

@@ -36,7 +36,7 @@ fn exit_reason_of(stopped: ReplayError) -> ExitReason
     }
 }
 
-// Serves the events over an attached store.
+// Serves the events over a store that is attached.
 fn serve_script<O: Sink, U: AuditSink, K: Vault, L: Ledger, M: Ledger>(
     dispatcher: &mut AppDispatcher<'_, '_, '_, '_, '_, '_, K, L, M>,
     events: &Bytes,
@@ -68,7 +68,7 @@ struct Served<'o> {
     lazy: bool,
 }
 
-// The same over a dispatcher, which ends after them.
+// The same, with a dispatcher that ends after the events.
 fn serve_over<O: Sink, U: AuditSink, K: Vault, L: Ledger, M: Ledger>(
     served: &Served<'_>,
     out: &mut O,
@@ -107,8 +107,8 @@ fn serve_over<O: Sink, U: AuditSink, K: Vault, L: Ledger, M: Ledger>(
     serve_script(&mut dispatcher, &served.opened.events, out, audit)
 }
 
-/// The steps of a replay: the application, the sessions, the events, the audit's aim, the store,
-/// and each event.
+/// The steps of a replay. They read the application, the sessions and the events, aim the audit,
+/// attach the store, and serve each event.
 pub fn replay<F: Files, O: Sink, U: AuditSink, K: Vault, L: Ledger, M: Ledger>(
     command: &Replay,
     files: &mut F,

@@ -1,4 +1,4 @@
-//! `serve`: an application is served on a port, to one connection after another.
+//! `serve`: serves an application on a port, to one connection after another.
 ghost use Rattle.std.specs.Prelude.{◌≡◌, IsOk, IsTrue, false};
 ghost use Rattle.jac_io.specs.Linked.{DoorLasts};
 ghost use Rattle.jac_lang.specs.Mirror.{application_of};
@@ -37,7 +37,7 @@ fn halted(halt: DoorHalt) -> ExitReason
     }
 }
 
-// Puts how many connections were served, and how many replies they got; it takes no memory.
+// Puts the numbers of connections and of replies. It needs no memory.
 fn put_served<O: Sink>(out: &mut O, tally: Tally) -> Result<(), Failed>
     ensures { IsPut (span (O.seen out.old) (O.seen out.new)) (served_line tally) result }
 {
@@ -55,7 +55,7 @@ fn put_served<O: Sink>(out: &mut O, tally: Tally) -> Result<(), Failed>
     )
 }
 
-// Serves the door's connections, and tells how many there were.
+// Serves the door's connections, and puts their number.
 fn serve_connections<O: Sink, U: AuditSink, K: Keeper, D: Door, L: Ledger, M: Ledger>(
     dispatcher: &mut AppDispatcher<'_, '_, '_, '_, '_, '_, K, L, M>,
     serving: &ServeArgs,
@@ -86,7 +86,7 @@ fn serve_connections<O: Sink, U: AuditSink, K: Keeper, D: Door, L: Ledger, M: Le
     }
 }
 
-// Has the door listen, and serves its connections.
+// Lets the door listen, and serves its connections.
 fn serve_door<O: Sink, U: AuditSink, K: Keeper, D: Door, L: Ledger, M: Ledger>(
     dispatcher: &mut AppDispatcher<'_, '_, '_, '_, '_, '_, K, L, M>,
     serving: &ServeArgs,
@@ -121,7 +121,8 @@ struct Served<'o> {
     serving: &'o ServeArgs,
 }
 
-// The same over a dispatcher, which ends after them.
+// The request of an `ask` line is answered. Its audit line is put whole, with this tally, or only a
+// prefix of it is put.
 fn serve_over<O: Sink, U: AuditSink, K: Vault, D: Door, L: Ledger, M: Ledger>(
     served: &Served<'_>,
     out: &mut O,
@@ -163,8 +164,7 @@ fn serve_over<O: Sink, U: AuditSink, K: Vault, D: Door, L: Ledger, M: Ledger>(
     serve_door(&mut dispatcher, serving, out, audit, door)
 }
 
-/// The steps of `serve`: the application, the sessions, the audit's aim, the store, the door's
-/// port, each connection, and the line that tells how many there were.
+/// The first events were served, and only a prefix of the last audit line was put.
 pub fn serve<F: Files, O: Sink, U: AuditSink, K: Vault, D: Door, L: Ledger, M: Ledger>(
     serving: &ServeArgs,
     files: &mut F,

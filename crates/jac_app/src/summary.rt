@@ -12,8 +12,8 @@ use jac_replies::Answer;
 use jac_serve_events::{put, put_five};
 use jac_world::Assignment;
 
-/// A log in numbers: requests, those of POST and of GET, the bytes of all bodies, and the labels in
-/// the audit lines of GETs.
+/// The numbers of a log: its requests, those of POST and of GET, the bytes of all bodies, and the
+/// labels in the audit lines of GETs.
 #[derive(Clone, Copy, PartialEq, Eq)]
 pub struct Summary {
     pub asks: u64,
@@ -23,14 +23,14 @@ pub struct Summary {
     pub labels: u128,
 }
 
-/// What is counted of one answer: the bytes of its body, and the labels of its audit line.
+/// The numbers of one answer: the bytes of its body, and the labels in its audit line.
 #[derive(Clone, Copy, PartialEq, Eq)]
 pub struct Tally {
     pub bytes: usize,
     pub labels: usize,
 }
 
-/// The numbers of no requests.
+/// The summary of no requests.
 pub fn none_counted() -> Summary
     ensures none { result ≡ summary_of [] }
     ensures bounded { IsBounded result }
@@ -44,7 +44,7 @@ pub fn none_counted() -> Summary
     }
 }
 
-/// With one more request of this method.
+/// The summary after one more request with this method.
 pub fn counted(summary: Summary, method: &[u8], tally: Tally) -> Summary
     requires few { summary.asks < 2 ^ 64 - 1 }
     requires bounded { IsBounded summary }
@@ -86,7 +86,7 @@ fn labels_shown(shown: &Option<Assignment>) -> usize
     }
 }
 
-/// Of the answer that stands in where memory ran out or the keeper failed.
+/// The tally of the answer that is given if memory ran out or the keeper failed.
 pub fn failed_tally(stop: Stop) -> Tally
     ensures { result ≡ tally_of (refusal (status_of_stop stop) None) }
 {
@@ -105,7 +105,7 @@ fn failed_body(stop: Stop) -> &'static [u8]
     }
 }
 
-/// Puts the line of a summary: `asks N posts P gets G bytes B labels L`. It takes no memory.
+/// Puts the line of a summary: `asks N posts P gets G bytes B labels L`. It needs no memory.
 pub fn put_summary<O: Sink>(out: &mut O, summary: &Summary) -> Result<(), Failed>
     ensures { IsPut (span (O.seen out.old) (O.seen out.new)) (summary_line summary.now) result }
 {
