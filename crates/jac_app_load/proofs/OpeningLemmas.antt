@@ -1,4 +1,4 @@
--- What bytes are opened as.
+-- What bytes are opened as, and why they are refused.
 use Rattle.std.proofs.Common.{◌≡◌, ◌∙◌, ap, sym, subst, refl, ℕ, ◌≤◌, ◌<◌, ◌⊎◌, inl, inr, Bool, true, false, if◌then◌else◌, IsTrue, IsErrOf, IsUtf8, MatchResult, IfOk, IfErr, List, [], ◌∷◌, length, Some, Result, Ok, Err, arith}
 use Rattle.std.specs.List.{All, range_with_len}
 use Rattle.std.specs.Str.{IsValidUpTo}
@@ -26,7 +26,7 @@ use Rattle.jac_app_load.specs.Refusal.{IsStep, HasRefusal, IsOpening, text_refus
 use Rattle.jac_app_load.specs.declared.refusal.Refusal.{Refusal}
 use Rattle.jac_app_load.specs.declared.refusal.Refusal.TheVariants as refusals
 
--- an application expands to one thing
+-- An application has only one expansion.
 abbrev pub ExpandsToOne : Type 0
 ExpandsToOne = (app : Application) (e f : Expanded) → ExpandsApplication app e → ExpandsApplication app f → e ≡ f
 
@@ -39,7 +39,7 @@ opens_form_one one (refused fault) a b x y = x ∙ sym y
 opens_form_one one (got app) a b x y =
     opens_expanded_one y.0 a b (subst (λ (e : Expanded). OpensExpanded e a) (one app x.0 y.0 x.1 y.1) x.2) y.2
 
--- a tree is opened as one thing
+-- A tree is opened as one thing only.
 opens_one : ExpandsToOne → (t : PlainTree) (a b : Opened) → Opens t a → Opens t b → a ≡ b
 opens_one one t a b x y = opens_form_one one (application_in_tree [] t) a b x y
 
@@ -51,7 +51,7 @@ abbrev is_memory : TreeFault → Type 0
 is_memory faults.Memory = Unit {0}
 is_memory fault = ⊥
 
--- a step that a tree doesn't pass is no application
+-- If a tree fails a step, it isn't opened as an application.
 no_application : ExpandsToOne → (t : PlainTree) (r : Refusal) → IsStep (Opens t) r → (app : Application) → Opens t (Opened.application app) → ⊥
 no_application one t (refusals.Text fault) step app opens = absurd step
 no_application one t (refusals.Form fault) step app opens = subst is_application (sym (opens_one one t _ _ step opens)) tt
@@ -60,7 +60,7 @@ no_application one t (refusals.Check fault) step app opens = subst is_applicatio
 no_application one t (refusals.Clash view) step app opens = subst is_application (sym (opens_one one t _ _ step opens)) tt
 no_application one t refusals.Memory step app opens = absurd step
 
--- the tree of the bytes was refused
+-- The tree of the bytes was refused.
 tree_refused : ExpandsToOne → (bytes : List ℕ) (t : PlainTree) (r : Refusal) → ((u : PlainTree) → Accepted bytes u → t ≡ u)
     → (r ≡ refusals.Memory) ⊎ IsStep (Opens t) r → (r ≡ refusals.Memory) ⊎ ((app : Application) → IsApplication bytes app → ⊥)
 tree_refused one bytes t r only (inl memory) = inl memory
@@ -80,7 +80,7 @@ tree_has : (bytes : List ℕ) (t : PlainTree) (r : Refusal) → Accepted bytes t
 tree_has bytes t r accepted (inl memory) = inl memory
 tree_has bytes t r accepted (inr step) = inr (step_has bytes t r accepted step)
 
--- a step that says more
+-- A step under a wider condition.
 step_on : (P Q : Opened → Type 0) → ((o : Opened) → P o → Q o) → (r : Refusal) → IsStep P r → IsStep Q r
 step_on P Q f (refusals.Text fault) h = h
 step_on P Q f (refusals.Form fault) h = f _ h
@@ -98,7 +98,7 @@ pub opening_on : (P Q : Opened → Type 0) → ((o : Opened) → P o → Q o) �
 opening_on P Q f (Ok app) h = f _ h
 opening_on P Q f (Err r) h = step_or_memory P Q f r h
 
--- the bytes have the fault that the reader answers
+-- The bytes have the fault that the reader returns.
 pub text_has : {T : Type 0} → (bytes : List ℕ) (r : Result T TreeFault) (fault : TreeFault) → r ≡ Err fault
     → (IsErrOf r faults.Long → 1048576 < length bytes) → length bytes ≤ 1048576
     → ((at : ℕ) → IsErrOf r (faults.NotUtf8 at) → (length bytes ≤ 1048576) × ¬ (IsUtf8 bytes) × IsValidUpTo bytes at)
@@ -113,7 +113,7 @@ text_has bytes r (faults.Deep at) is long short not_utf8 stray deep unclosed = i
 text_has bytes r (faults.Unclosed at) is long short not_utf8 stray deep unclosed = inr (unclosed at is)
 text_has bytes r faults.Memory is long short not_utf8 stray deep unclosed = inl refl
 
--- bytes with a fault spell no tree
+-- Bytes with a fault spell no tree.
 pub text_none : {T : Type 0} → (read : T → PlainTree) (bytes : List ℕ) (r : Result T TreeFault) (fault : TreeFault) → r ≡ Err fault
     → ((t : PlainTree) → Accepted bytes t → MatchResult r (λ u. read u ≡ t) (λ e. e ≡ faults.Memory))
     → (text_refusal fault ≡ refusals.Memory) ⊎ ((app : Application) → IsApplication bytes app → ⊥)
@@ -127,12 +127,12 @@ text_none read bytes r (faults.Unclosed at) is only = inr (λ app h. subst is_me
 pub some_same : {A : Type 0} (x y : A) → Some x ≡ Some y → x ≡ y
 some_same x y h = cc
 
--- what is read is the value that is there
+-- If a value was read, the read is `got` with this value.
 pub read_is : {A : Type 0} (read : Read A) (x : A) → value_of read ≡ Some x → read ≡ got x
 read_is (got y) x same = ap got (some_same y x same)
 read_is (refused fault) x same = cc
 
--- the reader's fault of form, of a template, of a name or a kind
+-- The reader's fault: of form, of a template, of a name or of a kind.
 pub form_steps : (Is : Opened → Type 0) (fault : FormFault) → (IsTrue (form_refuses fault) → Is (Opened.no_form fault))
     → (form_refusal fault ≡ refusals.Memory) ⊎ IsStep Is (form_refusal fault)
 form_steps Is misshapen.Memory h = inl refl
@@ -163,8 +163,8 @@ pub opening_none : ExpandsToOne → (bytes : List ℕ) (t : PlainTree) (result :
 opening_none one bytes t (Ok app) only h = tt
 opening_none one bytes t (Err r) only h = tree_refused one bytes t r only h
 
--- where the sites of an application that was read are their places, those of the application with its templates
--- expanded are too
+-- If the sites of an application that was read are their places, so are those of the application
+-- with its templates expanded.
 sited_view : (v out : Page) → IsWrittenView v → ExpandsView v out → IsSited out
 sited_view v out written expands =
     let same = view_keeps_sites v out expands in
@@ -184,6 +184,6 @@ pub sited : (app out : Application) → IsWritten app → ExpandsApplication app
 sited app out written expands =
     subst (λ (a : Application). All IsSited a.views) (sym expands.2) (sited_views app.views expands.0 written.views expands.1)
 
--- and its models are the ones that were read
+-- Its models are the ones that were read.
 pub same_models : (app out : Application) → IsWritten app → ExpandsApplication app (Expanded.application out) → All IsWrittenModel out.models
 same_models app out written expands = subst (λ (a : Application). All IsWrittenModel a.models) (sym expands.2) written.models

@@ -1,4 +1,4 @@
--- The view at a place stands for what stands at that place.
+-- The pages of views have the same places as the views.
 use Rattle.std.proofs.Common.{◌≡◌, ℕ, zero, suc, List, [], ◌∷◌, length, refl, ap, Some}
 use Rattle.std.specs.Prelude.{slice_get}
 use Rattle.jac_lang.specs.Mirror.{page_of_view, pages_of}

@@ -25,7 +25,7 @@ use Rattle.jac_keep.specs.Schema.{IsSchema, each_of, place_from, reference_kind,
 use Rattle.jac_check.specs.Schema.{kind_tree, field_tree, field_trees, guard_trees, group_trees, fields_tree, groups_tree, nested_atom_before, list_trees, model_tree, model_trees, schema_tree}
 use Rattle.jac_check.specs.Well.{is_viewer, is_kind, are_fields, are_groups, are_models, is_well}
 
--- a name is an atom
+-- A name is an atom.
 some_byte : (a : List ℕ) → is_ascii_alphabetic (slice_index a 0) ≡ true → a ≢ []
 some_byte [] h = λ _. absurd (cc)
 some_byte (b ∷ bs) h = λ e. absurd (cc)
@@ -58,7 +58,7 @@ nested_word = ((λ e. absurd (cc)), refl)
 ref_word : HasAtoms (PlainTree.atom (codes "ref"))
 ref_word = ((λ e. absurd (cc)), refl)
 
--- each atom of the schema is one
+-- Each atom of the schema is an atom.
 kind_atoms : (k : KindName) → IsWrittenKind k → HasAtoms (kind_tree k)
 kind_atoms kinds.Int w = ((λ e. absurd (cc)), refl)
 kind_atoms kinds.Text w = ((λ e. absurd (cc)), refl)
@@ -95,7 +95,7 @@ models_atoms (m ∷ ms) w =
     let lists : HaveAtoms (list_trees m) = ((fields_word, fields_atoms m.fields one.fields), ((groups_word, groups_atoms m.groups one.groups), tt)) in
     ((model_word, (atom_of_name m.name one.name, nested_atoms m.nested (list_trees m) lists)), models_atoms ms (All-tail IsWrittenModel m ms w))
 
--- how deep the schema nests
+-- The nesting depth of the schema.
 kind_shallow : (k : KindName) → nesting (kind_tree k) ≤ 1
 kind_shallow kinds.Int = omega arith
 kind_shallow kinds.Text = omega arith
@@ -148,7 +148,7 @@ models_shallow (m ∷ ms) = max_most _ _ 4 (model_shallow m) (models_shallow ms)
 schema_shallow : (ms : List Entity) → nesting (schema_tree ms) ≤ 64
 schema_shallow ms = omega (arith, max_most 0 _ 4 (omega arith) (models_shallow ms))
 
--- the place of a model among the trees is its place among the models
+-- The place of a model among the trees is its place among the models.
 place_step : (b : Bool) (k n l : ℕ) (rest : Option ℕ) → rest ≡ cond (nat_lt n l) (Some (k + 1 + n)) None
     → (if b then Some k else rest) ≡ cond (nat_lt (cond (not b) (1 + n) 0) (suc l)) (Some (k + cond (not b) (1 + n) 0)) None
 place_step true k n l rest same = found (nat_lt 0 (suc l)) (grind (nat_tests, arith))
@@ -174,7 +174,7 @@ known : (o : Option ℕ) (d : ℕ) → is_some o ≡ true → option_map kind.Re
 known None d h = cc
 known (Some p) d h = refl
 
--- what the schema's parts are read as
+-- What the parts of the schema are read as.
 kind_read : (models : List Entity) (k : KindName) → is_kind models k ≡ true → kind_of_tree (model_trees models) (kind_tree k) ≡ Some (kind_named models k)
 kind_read models kinds.Int h = refl
 kind_read models kinds.Text h = refl
@@ -229,7 +229,7 @@ model_read models m w h =
     if_true (is_name m.name) _ None w.name
     ∙ (ap (λ (ts : PlainTrees). kinds_of_lists (model_trees models) ts) (behind_it m.nested m) ∙ lists_read models m w h)
 
--- the kinds of the models' fields, and which models are nested
+-- The kinds of the models' fields. Below, which models are nested.
 abbrev kinds_of_all : List Entity → List Entity → List (List Kind)
 kinds_of_all models [] = []
 kinds_of_all models (m ∷ ms) = kinds_of_fields models m.fields ∷ kinds_of_all models ms
@@ -260,7 +260,7 @@ shapes_read : (models ms : List Entity) → shapes_by (kinds_of_all models ms) (
 shapes_read models [] = refl
 shapes_read models (m ∷ ms) = rw (shapes_read models ms) refl
 
--- the kinds that were read, beside which models are nested
+-- The kinds and the nested models that were read give the shapes of the models.
 shapes_seen : (kinds : Option (List (List Kind))) (nested : List Bool) (models : List Entity) → kinds ≡ Some (kinds_of_all models models) → nested ≡ nested_of_all models
     → option_map (λ ks. shapes_by ks nested) kinds ≡ Some (shapes_of_models models models)
 shapes_seen kinds nested models h k = rw (h, k, shapes_read models models) refl

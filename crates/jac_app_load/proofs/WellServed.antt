@@ -1,4 +1,4 @@
--- A well application whose sites are their places is one that is served.
+-- A well application whose sites are their places is served.
 use Rattle.std.proofs.Common.{◌≡◌, ◌∙◌, rules, refl, ap, arith, ℕ, ◌+◌, ◌≤◌, ◌<◌, nat_le, nat_lt, Bool, true, false, ◌&&◌, List, [], ◌∷◌, length, is_some, zero, suc, IsTrue}
 use Rattle.std.specs.List.{All, range_with_len}
 use Rattle.std.proofs.lemmas.Bool.Decides.{nat_tests}
@@ -18,7 +18,7 @@ use Rattle.jac_check.proofs.WellRuns.{well-runs}
 use Rattle.jac_app_load.specs.Served.{behind_sites, is_served_body, are_served_views, are_served, IsSited}
 use Rattle.jac_lang.specs.Untemplated.{is_untemplated, are_untemplated}
 
--- no template is left
+-- No template is left.
 mutual
   untemplated_one : (get : Bool) (models : List Entity) (loops : Loops) (s : Statement) → is_runnable get models loops s ≡ true → is_untemplated s ≡ true
   untemplated_one get models loops (Statement.put e) h = refl
@@ -43,7 +43,7 @@ mutual
       let parts = and_parts _ (are_runnable get models loops ss) h in
       and_from _ _ (untemplated_one get models loops s parts.0) (untemplated get models loops ss parts.1)
 
--- nothing is sited where the view answers GET
+-- If the view answers GET, it has no sites.
 mutual
   reading_one : (models : List Entity) (loops : Loops) (s : Statement) → is_runnable true models loops s ≡ true → is_reading s ≡ true
   reading_one models loops (Statement.put e) h = refl
@@ -68,7 +68,7 @@ mutual
       let parts = and_parts _ (are_runnable true models loops ss) h in
       and_from _ _ (reading_one models loops s parts.0) (reading models loops ss parts.1)
 
--- each create stands where it may
+-- Each create is at a permitted place.
 mutual
   placed_one : (get : Bool) (models : List Entity) (loops : Loops) (s : Statement) → is_runnable get models loops s ≡ true → is_placed models loops s ≡ true
   placed_one get models loops (Statement.put e) h = refl
@@ -95,7 +95,7 @@ mutual
       let parts = and_parts _ (are_runnable get models loops ss) h in
       and_from _ _ (placed_one get models loops s parts.0) (placed get models loops ss parts.1)
 
--- sites that are their places rise, and are below 64
+-- Sites that are their places rise and are below 64.
 in_order : (n a : ℕ) → a + n ≤ 64 → is_some (behind_sites a (range_with_len a n)) ≡ true
 in_order zero a few = refl
 in_order (suc n) a few =

@@ -14,14 +14,14 @@ use Rattle.jac_check.specs.Schema.{schema_tree}
 use Rattle.jac_check.specs.declared.fault.CheckFault.{CheckFault}
 use Rattle.jac_route.specs.Routes.{Table, table_of}
 
--- what a tree is opened as: an application, or the first step that it doesn't pass
+-- What a tree is opened as: an application, or the first step that it fails.
 pub data Opened : Type 0 where
   application : Application → Opened
   no_form : FormFault → Opened
-  -- a template of the view of this number has this fault
+  -- A template of the view with this number has this fault.
   no_template : ℕ → Fault → Opened
   unwell : CheckFault → Opened
-  -- the path of the view of this number can't stand beside the earlier ones
+  -- The path of the view with this number clashes with an earlier one.
   clash : ℕ → Opened
 
 abbrev pub opened_routed : Result Table ℕ → Application → Opened
@@ -32,7 +32,7 @@ abbrev pub opened_checked : Option CheckFault → Application → Opened
 opened_checked (Some fault) app = Opened.unwell fault
 opened_checked None app = opened_routed (table_of app) app
 
--- an application without templates: its names and kinds are checked, then its paths
+-- An application without templates. Its names and kinds are checked, then its paths.
 abbrev pub OpensExpanded : Expanded → Opened → Type 0
 OpensExpanded (Expanded.fault view fault) o = o ≡ Opened.no_template view fault
 OpensExpanded (Expanded.application app) o = o ≡ opened_checked (first_fault app) app
@@ -41,14 +41,14 @@ abbrev pub OpensForm : Read Application → Opened → Type 0
 OpensForm (refused fault) o = o ≡ Opened.no_form fault
 OpensForm (got app) o = (e : Expanded) × ExpandsApplication app e × OpensExpanded e o
 
--- the application that a tree writes, with its templates expanded, is opened as this
+-- The tree, with the templates of its application expanded, is opened as this.
 abbrev pub Opens : PlainTree → Opened → Type 0
 Opens t o = OpensForm (application_in_tree [] t) o
 
--- the bytes spell this application
+-- The bytes spell this application.
 abbrev pub IsApplication : List ℕ → Application → Type 0
 IsApplication bytes app = (t : PlainTree) × Accepted bytes t × Opens t (Opened.application app)
 
--- the schema that an application's records are stored under
+-- The schema under which an application's records are stored.
 abbrev pub schema_text : Application → List ℕ
 schema_text app = printed_tree (schema_tree app.models)

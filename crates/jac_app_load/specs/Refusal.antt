@@ -32,7 +32,7 @@ use Rattle.jac_app_load.specs.Application.{IsApplication, Opened, Opens}
 use Rattle.jac_app_load.specs.declared.refusal.Refusal.{Refusal}
 use Rattle.jac_app_load.specs.declared.refusal.Refusal.TheVariants as refusals
 
--- the bytes spell no tree, for this fault; a file that is too long is told before
+-- The bytes spell no tree, because of this fault. The length of a file is checked before.
 abbrev pub HasTextFault : List ℕ → TreeFault → Type 0
 HasTextFault bytes faults.Long = ⊥
 HasTextFault bytes (faults.NotUtf8 at) = ¬ (IsUtf8 bytes) × IsValidUpTo bytes at
@@ -41,7 +41,7 @@ HasTextFault bytes (faults.Deep at) = IsDeepAt bytes at
 HasTextFault bytes (faults.Unclosed at) = IsUnclosedAt bytes at
 HasTextFault bytes faults.Memory = ⊥
 
--- the first step that wasn't passed, where what was opened is as `Is` says
+-- The first step that failed, if `Is` holds for what was opened.
 abbrev pub IsStep : (Opened → Type 0) → Refusal → Type 0
 IsStep Is (refusals.Text fault) = ⊥
 IsStep Is (refusals.Form fault) = Is (Opened.no_form fault)
@@ -51,17 +51,17 @@ IsStep Is (refusals.Check fault) = Is (Opened.unwell fault)
 IsStep Is (refusals.Clash view) = Is (Opened.clash view)
 IsStep Is refusals.Memory = ⊥
 
--- what was opened, unless memory ran out
+-- What was opened, unless memory ran out.
 abbrev pub IsOpening : (Opened → Type 0) → Result App Refusal → Type 0
 IsOpening Is (Ok app) = Is (Opened.application (application_of app))
 IsOpening Is (Err refusal) = (refusal ≡ refusals.Memory) ⊎ IsStep Is refusal
 
--- the first step that the bytes don't pass
+-- The first step that the bytes fail.
 abbrev pub HasRefusal : List ℕ → Refusal → Type 0
 HasRefusal bytes (refusals.Text fault) = HasTextFault bytes fault
 HasRefusal bytes refusal = (t : PlainTree) × Accepted bytes t × IsStep (Opens t) refusal
 
--- what is made of a fault: want of memory is none of the text's
+-- The refusal for a fault of the text. Running out of memory is no fault of the text.
 abbrev pub text_refusal : TreeFault → Refusal
 text_refusal faults.Memory = refusals.Memory
 text_refusal fault = refusals.Text fault
@@ -77,7 +77,7 @@ template_refusal fault = if refuses_template fault.fault then refusals.Template 
 abbrev pub check_refusal : CheckFault → Refusal
 check_refusal fault = if is_fault fault.cause then refusals.Check fault else refusals.Memory
 
--- a fault and its place, counted in bytes from 0
+-- The line of a fault and its place, counted in bytes from 0.
 abbrev pub at_place : List ℕ → ℕ → List ℕ
 at_place what at = codes "app: " ++ (what ++ (codes " at " ++ (decimal at ++ 10 ∷ [])))
 
@@ -89,7 +89,7 @@ text_fault (faults.Deep at) = at_place (codes "deep") at
 text_fault (faults.Unclosed at) = at_place (codes "unclosed") at
 text_fault faults.Memory = codes "app: refused\n"
 
--- the child numbers of a path, each after a point but the first
+-- The child numbers of a path, each after a point.
 abbrev pub more_steps : List ℕ → List ℕ
 more_steps [] = []
 more_steps (n ∷ ns) = 46 ∷ (decimal n ++ more_steps ns)
@@ -128,7 +128,7 @@ what_word whats.Groups = codes "groups"
 what_word whats.Sites = codes "sites"
 what_word whats.Binders = codes "binders"
 
--- how many of these there may be
+-- The limit of their number.
 abbrev pub limit_word : What → List ℕ
 limit_word whats.Models = codes "64"
 limit_word whats.Fields = codes "32"
@@ -151,7 +151,7 @@ abbrev pub template_line : ℕ → List ℕ → ℕ → List ℕ
 template_line view what at = codes "app: template in view "
     ++ (decimal view ++ (codes ": " ++ (what ++ (codes " at " ++ (decimal at ++ 10 ∷ [])))))
 
--- the place is that of the first byte of a tag, in the bytes of the template
+-- The place is the offset of a tag's first byte in the template.
 abbrev pub template_fault : ℕ → TemplateFault → List ℕ
 template_fault view (untemplated.Unclosed at) = template_line view (codes "unclosed") at
 template_fault view (untemplated.Stray at) = template_line view (codes "stray") at
@@ -183,7 +183,7 @@ cause_text causes.ViewerInPublic = codes "viewer in a public value"
 cause_text (causes.NotHere name) = name ++ codes " may not stand here"
 cause_text causes.Memory = []
 
--- a cause after its place
+-- The line of a cause and its place.
 abbrev pub placed_fault : Place → List ℕ → List ℕ
 placed_fault places.Viewer cause = codes "app: viewer: " ++ (cause ++ 10 ∷ [])
 placed_fault (places.Model name) cause = codes "app: model "
@@ -194,7 +194,7 @@ placed_fault (places.View view) cause = codes "app: view "
 abbrev pub check_fault : CheckFault → List ℕ
 check_fault fault = placed_fault fault.place (cause_text fault.cause)
 
--- the line of a refusal
+-- The line of a refusal.
 abbrev pub refusal_text : Refusal → List ℕ
 refusal_text (refusals.Text fault) = text_fault fault
 refusal_text (refusals.Form fault) = form_fault_line fault
@@ -203,7 +203,7 @@ refusal_text (refusals.Check fault) = check_fault fault
 refusal_text (refusals.Clash view) = placed_fault (places.View view) (codes "path clashes")
 refusal_text refusals.Memory = []
 
--- the bytes are refused with this line, and are no application
+-- The bytes are refused with this line, and are no application.
 pub record IsRefusedBy (bytes line : List ℕ) : Type 0 where
   pub refusal : Refusal
   pub has : HasRefusal bytes refusal

@@ -23,8 +23,8 @@ use jac_template::{TemplateFault, ViewFault, expand_app, expands_to_one};
 use jac_tree::{Tree, TreeFault, read_tree};
 use std::alloc::Global;
 
-/// The application that the bytes spell, or the first step that they don't pass: the tree, its
-/// form, its templates, its names and kinds, its paths.
+/// The application that the bytes spell, or the first step that they fail: the tree, its form, its
+/// templates, its names and kinds, its paths.
 pub fn read_application(alloc: Global, bytes: &[u8]) -> Result<Service, Refusal>
     requires short { length bytes.now ≤ 1048576 }
     ensures app { IfOk result (λ s. IsApplication bytes.now (application_of s)) }

@@ -15,7 +15,7 @@ pub fn well_is_served()
         → are_served app ≡ true }
 {}
 
-/// A law: the schema text of a well application whose models were read has the shapes of its
+/// A law: if the models of a well application were read, its schema text has the shapes of its
 /// models.
 pub fn schema_of_well()
     ensures { (app : Application) → IsTrue (is_well app) → length app.models ≤ 64

@@ -1,4 +1,4 @@
-//! From the bytes of a file to an application that is served.
+//! Loads an application from its bytes, or gives the line that refuses it.
 #![tactic(auto)]
 
 mod application;

@@ -18,18 +18,18 @@ use std::alloc::Global;
 pub enum Refusal {
     /// They spell no tree.
     Text(TreeFault),
-    /// Their tree is not written as an application.
+    /// Their tree doesn't have the form of an application.
     Form(FormFault),
     /// A template of one of its views has no form.
     Template(ViewFault),
     /// A name or a kind of the application is wrong.
     Check(CheckFault),
-    /// The path of the view of this number conflicts with an earlier one.
+    /// The path of the view with this number conflicts with an earlier one.
     Clash(u32),
     Memory,
 }
 
-/// The line that says it.
+/// The line that gives the reason.
 pub fn refusal_line(alloc: Global, refusal: &Refusal) -> Result<Txt, Memory>
     ensures line { IfOk result (λ line. line ≡ refusal_text refusal.now) }
     ensures refused { IfOk result (λ line. ¬ (refusal.now ≡ Refusal.Memory)) }

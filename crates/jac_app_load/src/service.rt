@@ -13,7 +13,7 @@ use jac_value::{Memory, Txt};
 use std::alloc::Global;
 use std::marker::Model;
 
-/// An application that is served: it is well, and has its routes.
+/// An application that can be served: it is well, and it has its routes.
 #[derive(Drop)]
 pub struct Service {
     checked: Checked,
@@ -52,7 +52,7 @@ impl Service {
         Service { checked, routes }
     }
 
-    /// The application, to which contracts see this as well.
+    /// The application. Contracts see a `Service` as its application too.
     pub fn app(&self) -> &App
         ensures app { result.now ≡ self.now }
         ensures served { are_served (application_of self.now) ≡ true }
@@ -69,7 +69,7 @@ impl Service {
         &self.routes
     }
 
-    /// The schema that the application's records are stored under.
+    /// The schema under which the application's records are stored.
     pub fn schema(&self, alloc: Global) -> Result<Txt, Memory>
         ensures text { IfOk result (λ t. t ≡ schema_text (application_of self.now)) }
         ensures schema { IsSchema (schema_text (application_of self.now))
