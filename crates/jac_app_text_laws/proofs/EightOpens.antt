@@ -13,14 +13,14 @@ use Rattle.jac_calendar_laws.proofs.CalendarOpens.{read_or_none, application_or_
 use Rattle.jac_calendar_laws.proofs.ReadTexts.{Front, tree_at, is_tree}
 use Rattle.jac_app_text_laws.specs.Eight.{eight_text}
 
--- all of it, read in fewer steps than it has bytes
+-- Reads the whole text. 100 steps are enough.
 abbrev pub read_eight : Option (Front PlainTree)
 read_eight = tree_at 100 (skip eight_text)
 
 abbrev pub eight_tree : PlainTree
 eight_tree = (read_or_none read_eight).what
 
--- the application that it is
+-- The application of the text.
 abbrev pub eight : Application
 eight = application_or_none (application_in_tree [] eight_tree)
 

@@ -1,4 +1,4 @@
--- What is so of the application that a known text spells.
+-- What holds of the application that a known text spells.
 use Rattle.std.proofs.Common.{◌≡◌, refl, ap, sym, subst, ◌∙◌, ℕ, zero, suc, true}
 use Rattle.jac_demo.specs.Calendar.{calendar_text}
 use Rattle.jac_lang.specs.Syntax.{Application}
@@ -34,7 +34,7 @@ eight_local = refl
 pub eight_spelled_local : (app : Application) → IsApplication eight_text app → is_local_app app ≡ true
 eight_spelled_local app is = ap is_local_app (one_spelled eight_text app eight is eight_is) ∙ eight_local
 
--- the calendar has two models, and three views
+-- The calendar has two models and three views.
 calendar_hides_nothing : HideNothing calendar.models
 unfolding calendar_text
 calendar_hides_nothing zero = refl

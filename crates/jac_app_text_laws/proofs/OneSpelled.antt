@@ -1,4 +1,4 @@
--- Bytes spell one application at most.
+-- Bytes spell at most one application.
 use Rattle.std.proofs.Common.{◌≡◌, ◌∙◌, sym, subst, ℕ, List, []}
 use Rattle.jac_lang.specs.Syntax.{Application}
 use Rattle.jac_tree.proofs.Unique.{spells_one}

@@ -1,8 +1,9 @@
--- The text of an application whose eight groups wait for each other.
+-- The text of an application in which the policy of each of eight groups but the last reads the
+-- field that the next group guards.
 use Rattle.std.specs.Prelude.{ℕ, List, ◌++◌, codes}
 
--- boxes with eight fields, the label of each of which is shown where the next field says `a`; the
--- last is for everybody
+-- Boxes with eight fields. The label of each field is shown if the next field says `a`. The last
+-- field is for everybody.
 unfoldable pub eight_text : List ℕ
 eight_text =
     codes "(app (model Box (fields (f0 text) (f1 text) (f2 text) (f3 text)"

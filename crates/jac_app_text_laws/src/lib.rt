@@ -1,4 +1,4 @@
-//! Laws of what bytes spell: one application at most, and of texts that are known what theirs is.
+//! Laws on texts: bytes spell at most one application, and the calendar is open and local.
 #![tactic(auto)]
 
 mod laws;
