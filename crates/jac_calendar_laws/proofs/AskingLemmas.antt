@@ -16,7 +16,7 @@ use Rattle.jac_events.specs.Lines.{is_method, is_path_target, request_of_parts, 
 use Rattle.jac_events.specs.Words.{word_at, read_quoted, with_byte}
 use Rattle.jac_calendar_laws.specs.Asking.{IsAsking, AreAsking}
 
--- a byte that stands for itself in a word and between quotes
+-- A byte that needs no escape, in a word and between quotes.
 abbrev pub is_quiet : ℕ → Bool
 is_quiet b = nat_lt 34 b && not (b == 92)
 
@@ -54,7 +54,7 @@ inside (x ∷ xs) h =
     (ap not (not_feed x (and_left (is_quiet x) (list_all is_quiet xs) h)))
     (inside xs (and_right (is_quiet x) (list_all is_quiet xs) h))
 
--- the place of the first space
+-- The place of the first space.
 front_length : (w rest : List ℕ) → list_all is_quiet w ≡ true → position_or_len (λ b. b == 32) (w ++ 32 ∷ rest) ≡ length w
 front_length [] rest h = refl
 front_length (x ∷ w) rest h =
@@ -86,7 +86,7 @@ word_front w rest h =
     (placed (length w) (position_or_len (λ b. b == 32) all) (length all) (front_length w rest h) (length_front w rest))
     ∙ (λ i. Some (front i, behind i))
 
--- what stands up to the closing quote
+-- The text before the closing quote.
 unquoted_front : (w rest : List ℕ) → list_all is_quiet w ≡ true → read_quoted (w ++ 34 ∷ rest) ≡ Some (w, rest)
 unquoted_front [] rest h = refl
 unquoted_front (x ∷ w) rest h =
@@ -94,7 +94,7 @@ unquoted_front (x ∷ w) rest h =
     rw (not_quote x quiet, not_slash x quiet, not_feed x quiet)
     (ap (λ (o : Option (List ℕ × List ℕ)). with_byte x o) (unquoted_front w rest (and_right (is_quiet x) (list_all is_quiet w) h)))
 
--- a request of these parts, after `ask`
+-- The parts of a request after `ask`.
 abbrev ask_text : List ℕ → List ℕ → List ℕ → List ℕ → List ℕ
 ask_text viewer method target body = viewer ++ 32 ∷ (method ++ 32 ∷ (34 ∷ (target ++ 34 ∷ (32 ∷ (34 ∷ (body ++ 34 ∷ []))))))
 
@@ -132,7 +132,7 @@ parts_inside viewer method target body number p =
     let behind_method = all_append is_inside method (32 ∷ (34 ∷ (target ++ 34 ∷ (32 ∷ (34 ∷ (body ++ 34 ∷ [])))))) (inside method p.quiet_method) behind_target in
     all_append is_inside viewer (32 ∷ (method ++ 32 ∷ (34 ∷ (target ++ 34 ∷ (32 ∷ (34 ∷ (body ++ 34 ∷ []))))))) (inside viewer p.quiet_viewer) behind_method
 
--- a line of the form of a request, with its line feed
+-- A line in the form of a request, with its line feed.
 record IsRequest (line : List ℕ) : Type 0 where
   part : List ℕ
   is : line ≡ part ++ 10 ∷ []
@@ -160,7 +160,7 @@ quiet_decimal n h =
     (λ n ds more so_far. all_append is_quiet ds ((48 + n % 10) ∷ []) so_far (quiet_one (n % 10) (omega arith)))
     n h
 
--- a viewer's number in digits
+-- The number of a viewer in digits.
 record IsViewer (word : List ℕ) : Type 0 where
   number : Option ℕ
   quiet : list_all is_quiet word ≡ true
@@ -285,12 +285,12 @@ lines_asking : (i count : ℕ) → i + count < 2 ^ 64 → AreAsking (lines_from 
 lines_asking i zero h = All-cons (λ line. IsAsking (line_of line)) [] [] tt (All-nil (λ line. IsAsking (line_of line)))
 lines_asking i (suc count) h = request_then (demo_line i) (lines_from (i + 1) count) (demo_request i (omega (arith, h))) (lines_asking (i + 1) count (omega (arith, h)))
 
--- each line of the generated requests has the form of one; after the last line feed stands an empty
--- line
+-- Each line of the generated requests has the form of a request. After the last line feed there is
+-- an empty line.
 pub text_asking : (count : ℕ) → count < 2 ^ 63 → AreAsking (demo_text count)
 text_asking count h = lines_asking 1 count (omega (arith, h))
 
--- how long a line may be
+-- The length of a line is bounded.
 length_join : (i : ℕ) → i < 10 ^ 4 → length (join_line i) ≤ 100
 length_join i h =
     let number = length-decimal-le 4 i (omega arith) h (omega (arith, h)) in

@@ -13,7 +13,7 @@ use Rattle.jac_app_load.specs.Application.{Opened, Opens, IsApplication}
 use Rattle.jac_calendar_laws.proofs.AskingLemmas.{ascii_at}
 use Rattle.jac_calendar_laws.proofs.ReadTexts.{Front, front, tree_at, is_tree}
 
--- all of the calendar, read in fewer steps than it has bytes
+-- Reads the whole calendar. 100 steps are enough.
 abbrev pub read_calendar : Option (Front PlainTree)
 read_calendar = tree_at 100 (skip calendar_text)
 
@@ -28,7 +28,7 @@ abbrev pub application_or_none : Read Application → Application
 application_or_none (got app) = app
 application_or_none (refused fault) = record { viewer = None; models = []; views = [] }
 
--- the application that the calendar is
+-- The application of the calendar's text.
 abbrev pub calendar : Application
 calendar = application_or_none (application_in_tree [] calendar_tree)
 

@@ -1,4 +1,4 @@
--- A text that is known is read by computing, and what is computed is its tree.
+-- A known text is read by computing, and the result is its tree.
 use Rattle.std.proofs.Common.{◌≡◌, ◌≢◌, refl, sym, ◌∙◌, ap, subst, ℕ, zero, suc, Bool, true, false, ◌&&◌, if◌then◌else◌, ◌==◌, Option, Some, None, List, [], ◌∷◌, ◌++◌, inl, inr, IfSome, arith}
 use Rattle.std.proofs.lemmas.Bool.{cases_eq}
 use Rattle.std.proofs.lemmas.Bool.Decides.{nat_tests}
@@ -6,7 +6,7 @@ use Rattle.jac_value.specs.Names.{is_atom_byte}
 use Rattle.jac_tree.specs.Plain.{PlainTree, PlainTrees}
 use Rattle.jac_tree.specs.Grammar.{skip, are_atom_bytes, begins_with_atom_byte, is_plain_byte, PiecesAt, TreeAt, TreesAt}
 
--- what was read, and the bytes after it
+-- What was read, and the bytes after it.
 pub record Front (A : Type 0) : Type 0 where
   pub what : A
   pub behind : List ℕ
@@ -14,12 +14,12 @@ pub record Front (A : Type 0) : Type 0 where
 abbrev pub front : {A : Type 0} → A → List ℕ → Front A
 front what behind = record { what = what; behind = behind }
 
--- as it was read, as a part of more
+-- The same bytes are left, but what was read is part of something greater.
 abbrev pub mapped : {A B : Type 0} → (A → B) → Option (Front A) → Option (Front B)
 mapped f None = None
 mapped f (Some got) = Some (front (f got.what) got.behind)
 
--- the longest run of bytes of atoms
+-- The longest run of atom bytes.
 abbrev pub run_at : List ℕ → Front (List ℕ)
 run_at [] = front [] []
 run_at (b ∷ bs) = if is_atom_byte b then front (b ∷ (run_at bs).what) (run_at bs).behind else front [] (b ∷ bs)
@@ -28,22 +28,22 @@ abbrev pub atom_at : List ℕ → Option (Front PlainTree)
 atom_at [] = None
 atom_at (b ∷ bs) = if is_atom_byte b then Some (front (PlainTree.atom (run_at (b ∷ bs)).what) (run_at (b ∷ bs)).behind) else None
 
--- the inside of a text without escapes
+-- The inside of a text without escapes.
 abbrev pub pieces_at : List ℕ → Option (Front (List ℕ))
 pieces_at [] = None
 pieces_at (b ∷ bs) = if b == 34 then Some (front [] bs) else if b == 92 then None else mapped (λ xs. b ∷ xs) (pieces_at bs)
 
--- the first of some trees, and then the others
+-- The first tree, and then the others.
 abbrev pub and_more : Option (Front PlainTree) → (List ℕ → Option (Front PlainTrees)) → Option (Front PlainTrees)
 and_more None others = None
 and_more (Some first) others = mapped (λ ts. PlainTrees.more first.what ts) (others first.behind)
 
--- no tree where a bracket closes, else these
+-- No trees if the first byte closes the bracket. If not, these trees.
 abbrev pub closed_or : List ℕ → Option (Front PlainTrees) → Option (Front PlainTrees)
 closed_or [] trees = None
 closed_or (b ∷ bs) trees = if b == 41 then Some (front PlainTrees.none bs) else trees
 
--- a tree, and the trees up to a closing bracket, in at most so many steps
+-- A tree, and the trees up to a closing bracket, in at most so many steps.
 abbrev mutual
   pub tree_at : ℕ → List ℕ → Option (Front PlainTree)
   tree_at zero from = None
@@ -132,7 +132,7 @@ closed_trees from (b ∷ bs) o e h = elim (cases_eq b 41) [
 ]
 
 mutual
-  -- what is computed stands at the front of the bytes
+  -- The bytes begin with the tree that is computed.
   pub is_tree : (n : ℕ) (from : List ℕ) → IfSome (tree_at n from) (IsTreeOf from)
   is_tree zero from = tt
   is_tree (suc n) [] = tt

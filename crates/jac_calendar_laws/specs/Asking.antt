@@ -5,7 +5,7 @@ use Rattle.jac_events.specs.Lines.{line_of}
 use Rattle.jac_events.specs.declared.event.Event.{Event}
 use Rattle.jac_events.specs.declared.event.Event.TheVariants.{Ask as Asking, Begin, Piece, Finish}
 
--- the line is empty, or it writes down a request
+-- The line is empty or a request.
 abbrev pub IsAsking : Option (Option Event) → Type 0
 IsAsking None = ⊥
 IsAsking (Some None) = ⊤
@@ -14,6 +14,6 @@ IsAsking (Some (Some (Begin c))) = ⊥
 IsAsking (Some (Some (Piece c bytes))) = ⊥
 IsAsking (Some (Some (Finish c))) = ⊥
 
--- each line of the text is one; lines end in LF (10)
+-- Each line of the text is empty or a request. Lines end in LF (10).
 abbrev pub AreAsking : List ℕ → Type 0
 AreAsking text = All (λ line. IsAsking (line_of line)) (slice_split (λ b. b == 10) text)

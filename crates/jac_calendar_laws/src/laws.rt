@@ -10,8 +10,8 @@ pub fn calendar_opens()
     ensures { (app : Application) × IsApplication calendar_text app }
 {}
 
-/// A law: each line of the generated text is a request, and the text of as many as a demo may have
-/// is one that a buffer holds.
+/// A law: each line of the generated text is a request or empty. The text for as many requests as a
+/// demo may have fits into a buffer.
 pub fn lines_are_requests()
     ensures asking { (count : ℕ) → count < 2 ^ 63 → AreAsking (demo_text count) }
     ensures short { (count : ℕ) → count ≤ 2000 → length (demo_text count) < 2 ^ 63 }

@@ -1,5 +1,4 @@
-//! The laws that the calendar's text spells an application, and that each generated line is a
-//! request.
+//! Laws on the texts of `jac_demo`: they are an application, and requests to it.
 #![tactic(auto)]
 
 mod laws;
