@@ -13,7 +13,7 @@ or_twice : (r : Option Meaning) (m : Meaning) (d : Option Meaning) → or_found 
 or_twice None m d = refl
 or_twice (Some n) m d = refl
 
--- names that follow others hide them
+-- Later names hide earlier ones.
 innermost-append : (d : Option Meaning) (ns more : List Named) (x : List ℕ) → innermost d (ns ++ more) x ≡ innermost (innermost d ns x) more x
 innermost-append d [] more x = refl
 innermost-append d (n ∷ ns) more x = innermost-append (if same_text n.name x then Some n.meaning else d) ns more x

@@ -30,7 +30,7 @@ chosen : (b : Bool) (inside name : List ℕ) → (b ≡ true → IsUtf8 inside) 
 chosen true inside name text h = let same : inside ≡ name = cc in subst IsUtf8 same (text refl)
 chosen false inside name text h = cc
 
--- a name in a segment is a text
+-- A name in a segment is UTF-8.
 pub text_of_name : (segment name : List ℕ) → Some name ≡ segment_name segment → IsUtf8 name
 text_of_name segment name h = chosen (is_named_segment segment) (inner segment) name (λ e. name_utf8 (inner segment) (and_parts _ _ e).1) h
 
@@ -44,7 +44,7 @@ first_by : (b : Bool) (params : List Field) (name : List ℕ) (names : List (Lis
 first_by true params name names = alone_before (has_field name params) name (path_fault params names)
 first_by false params name names = refl
 
--- the fault in the first segment, and then that in the rest
+-- The fault in the first segment, or else the fault in the rest.
 pub segment_first : (params : List Field) (segment : List ℕ) (segments : List (List ℕ))
     → path_fault params (names_in (segment ∷ segments)) ≡ (path_fault params (names_in (segment ∷ [])) before path_fault params (names_in segments))
 segment_first params segment segments = first_by (is_named_segment segment) params (inner segment) (names_in segments)

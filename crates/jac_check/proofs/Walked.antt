@@ -1,4 +1,4 @@
--- A list whose items are tested one by one, each after those before it.
+-- Items of a list that are tested one by one, each after those before it.
 use Rattle.std.proofs.Common.{◌≡◌, ℕ, ◌+◌, ◌<◌, List, [], ◌∷◌, ◌++◌, length, take, drop, get_or, Option, None, sym, ◌∙◌, ap, add-one, drop-cons, take-suc, suc}
 use Rattle.jac_check.specs.Verdict.{◌before◌}
 
@@ -24,7 +24,7 @@ module _ {A B C : Type 0} (g : A → B) (f : List A → List B) (none : f [] ≡
       ap (F (f (take i xs))) (left xs x i item below) ∙ F-more (f (take i xs)) (g x) (f (drop (i + 1) xs))
       ∙ ap (λ (e : List B). test (f (take i xs)) (g x) before F e (f (drop (i + 1) xs))) (sym (done xs x i item below))
 
-  -- the item at the index passes
+  -- The item at the index passes.
   pub walked-more : (xs : List A) (x : A) (i : ℕ) (all : Option C) → x ≡ get_or xs i x → i < length xs → None ≡ test (f (take i xs)) (g x)
       → F (f (take i xs)) (f (drop i xs)) ≡ all → F (f (take (i + 1) xs)) (f (drop (i + 1) xs)) ≡ all
   walked-more xs x i all item below passes so_far =

@@ -1,4 +1,4 @@
--- An application is well exactly where it has no fault.
+-- An application is well exactly if it has no fault.
 use Rattle.std.proofs.Common.{◌≡◌, ◌∙◌, refl, ap, ℕ, ◌+◌, Bool, true, false, not, ◌&&◌, ◌||◌, List, [], ◌∷◌, ◌++◌, Option, Some, None, is_some, is_none, unwrap_or, codes, IsTrue}
 use Rattle.jac_value.specs.declared.value.Kind.{Kind}
 use Rattle.jac_value.specs.Paths.{segments, names_in}
@@ -44,7 +44,7 @@ expression-some s e = ap (λ (k : Option Kind). is_some k) (kinds-law s e) ∙ s
 expression-kind : (s : Scope) (k : Kind) (e : Expression) → has k (kind_of s e) ≡ is_none (of_kind k (verdict s e))
 expression-kind s k e = ap (has k) (kinds-law s e) ∙ kind-well k (verdict s e)
 
--- known, new, and then the rest
+-- A name is known, it is new, and then the rest.
 new-step : (o : Option Reason) (b : Bool) (cause : Reason) (r : Option Reason) → (is_none o && (not b && is_none r)) ≡ is_none (o before fault_if b cause before r)
 new-step (Some c) b cause r = refl
 new-step None true cause r = refl
@@ -197,7 +197,7 @@ placed-none : (ms : List Entity) (place : Place) (o : Option Reason) → is_none
 placed-none ms place None = refl
 placed-none ms place (Some reason) = refl
 
--- a part at its place, and then the rest
+-- A part at its place, and then the rest.
 at-step : (ms : List Entity) (p q : Bool) (place : Place) (o : Option Reason) (r : Option CheckFault) → p ≡ is_none o → q ≡ is_none r → (p && q) ≡ is_none (fault_at ms place o before r)
 at-step ms p q place o r h k = rw (h ∙ placed-none ms place o, k) (none_before (fault_at ms place o) r)
 

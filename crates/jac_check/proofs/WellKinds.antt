@@ -1,4 +1,4 @@
--- An expression has the kind that the table gives it exactly where it has no fault.
+-- An expression has the kind of `Kinds` exactly if it has no fault.
 use Rattle.std.proofs.Common.{◌≡◌, ◌∙◌, refl, ap, ℕ, Bool, true, false, not, ◌&&◌, ◌||◌, if◌then◌else◌, List, [], ◌∷◌, Option, Some, None, is_some, is_none, option_map}
 use Rattle.jac_value.specs.declared.value.Kind.{Kind}
 use Rattle.jac_value.specs.contracts.value.KindPartialEq.TheImpl.{ghosts}
@@ -187,7 +187,7 @@ sum-step false cause None None (Verdict.kind k) (Verdict.fault d) = given_and (g
 sum-step false cause None None (Verdict.kind k) (Verdict.kind j) =
     ap (λ (b : Bool). kind_if (b && ghosts.eq j Kind.Int) (Some Kind.Int)) (and_true (ghosts.eq k Kind.Bool)) ∙ given_two (ghosts.eq k Kind.Bool) (ghosts.eq j Kind.Int) _ _ Kind.Int
 
--- a query with the verdict on its condition
+-- A query, with the verdict on its condition.
 pub query-well : (s : Scope) (bs : List Binder) (o : Order) (v : Verdict)
     → is_query s bs o (kind_judged v) ≡ (not s.is_public && (is_none (binder_fault s.models [] bs) && (has Kind.Bool (kind_judged v) && is_none (order_fault s.models bs o))))
 query-well s bs o v =

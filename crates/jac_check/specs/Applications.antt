@@ -23,7 +23,8 @@ kind_fault ms names.Text = None
 kind_fault ms names.Bool = None
 kind_fault ms (names.Ref m) = unknown_model ms m
 
--- a field or a parameter: its name against those before it, then the model of its kind
+-- The fault of a field or a parameter: in its name (used earlier), and then in the model of its
+-- kind.
 abbrev pub field_fault : List Entity → List Field → Field → Option Reason
 field_fault ms earlier f = fault_if (has_field f.name earlier) (Reason.twice f.name) before
     kind_fault ms f.kind
@@ -33,8 +34,8 @@ fields_fault ms earlier [] = None
 fields_fault ms earlier (f ∷ fs) = field_fault ms earlier f before fields_fault ms
     (earlier ++ f ∷ []) fs
 
--- a guard: its field, whether that is guarded already, and the public expression, which has the
--- field's kind
+-- The fault of a guard: in its field, in a second guard of that field, and then in the public
+-- expression, which must have the field's kind.
 abbrev pub guard_fault : Application → Entity → List FieldGroup → List (List ℕ) → Assigned
     → Option Reason
 guard_fault app m earlier seen g =
@@ -48,7 +49,8 @@ guards_fault app m earlier seen [] = None
 guards_fault app m earlier seen (g ∷ gs) = guard_fault app m earlier seen g before guards_fault app
     m earlier (g.field ∷ seen) gs
 
--- a group: whether one before it hides the record as well, its guards in order, and then the policy
+-- The fault of a group: `hides` in an earlier group as well, then the first fault in its guards,
+-- and then that in its policy.
 abbrev pub group_fault : Application → Entity → List FieldGroup → FieldGroup → Option Reason
 group_fault app m earlier g =
     fault_if (g.hides && is_hiding earlier) (Reason.twice (codes "hides")) before guards_fault app m
@@ -59,7 +61,7 @@ groups_fault app m earlier [] = None
 groups_fault app m earlier (g ∷ gs) = group_fault app m earlier g before groups_fault app m
     (earlier ++ g ∷ []) gs
 
--- a model: its name against those before it, its fields, its groups
+-- The fault of a model: in its name (used earlier), in its fields, and then in its groups.
 abbrev pub model_fault : Application → List Entity → Entity → Option Reason
 model_fault app earlier m =
     fault_if (has_model m.name earlier) (Reason.twice m.name) before fields_fault app.models []
@@ -70,18 +72,18 @@ models_fault app earlier [] = None
 models_fault app earlier (m ∷ ms) = fault_at app.models (places.Model m.name)
     (model_fault app earlier m) before models_fault app (earlier ++ m ∷ []) ms
 
--- each name of a path is one of the parameters
+-- The fault of a path: a name in it that isn't one of the parameters.
 abbrev pub path_fault : List Field → List (List ℕ) → Option Reason
 path_fault params [] = None
 path_fault params (x ∷ xs) = fault_unless (has_field x params) (Reason.unknown x) before path_fault
     params xs
 
--- a view: its parameters, the names of its path, its statements
+-- The fault of a view: in its parameters, in the names of its path, and then in its statements.
 abbrev pub page_fault : Application → Page → Option Reason
 page_fault app v = fields_fault app.models [] v.params before path_fault v.params
     (names_in (segments v.path)) before body_fault (page_standing app v) v.body
 
--- views from this number on
+-- The first fault of the views. They are numbered from `n` on.
 abbrev pub pages_fault : Application → ℕ → List Page → Option CheckFault
 pages_fault app n [] = None
 pages_fault app n (v ∷ vs) = fault_at app.models (places.View n) (page_fault app v) before
@@ -91,12 +93,12 @@ abbrev pub viewers_fault : List Entity → Option (List ℕ) → Option Reason
 viewers_fault ms None = None
 viewers_fault ms (Some m) = unknown_model ms m
 
--- the first fault of an application: the viewers' model, each model, each view
+-- The first fault of an application: in the viewers' model, in each model, and then in each view.
 abbrev pub first_fault : Application → Option CheckFault
 first_fault app = fault_at app.models places.Viewer (viewers_fault app.models app.viewer) before
     models_fault app [] app.models before pages_fault app 0 app.views
 
--- want of memory is no fault of an application
+-- Out of memory is no fault of an application.
 abbrev pub is_fault : CheckCause → Bool
 is_fault causes.Memory = false
 is_fault cause = true

@@ -19,7 +19,7 @@ abbrev pub entity_name : Option Entity → List ℕ
 entity_name None = []
 entity_name (Some m) = m.name
 
--- the kind as the text names it: a reference has the name of its model
+-- The kind as the program's text names it. A reference has the name of its model.
 abbrev pub kind_name_of : List Entity → Kind → KindName
 kind_name_of ms kinds.Int = names.Int
 kind_name_of ms kinds.Text = names.Text

@@ -1,6 +1,5 @@
 -- The kind of an expression, or its first fault. Names are checked first, then operands from left
 -- to right, then their kinds.
--- right, their kinds from left to right.
 use Rattle.std.specs.Prelude.{ℕ, Bool, not, ◌&&◌, List, Option, None, codes}
 use Rattle.jac_value.specs.declared.value.Kind.{Kind}
 use Rattle.jac_lang.specs.declared.expressions.Op.{Op}
@@ -34,7 +33,8 @@ kind_or d (Verdict.fault cause) = d
 abbrev pub none_verdict : Scope → List ℕ → Verdict
 none_verdict s m = verdict_by (unknown_model s.models m) (reference_to s.models m)
 
--- a field of the record that `e` refers to; a public expression reads `this` alone
+-- The verdict on a field of the record that an expression refers to. In a public expression, only
+-- `this` may be read.
 abbrev pub get_verdict : Scope → List ℕ → List ℕ → Bool → Verdict → Verdict
 get_verdict s m f of_this e =
     verdict_by (fault_if (s.is_public && not of_this) (Reason.not_here (codes "get")) before
@@ -56,7 +56,8 @@ pick_verdict c a b = verdict_by (fault_in c before fault_in a before fault_in b 
     Kind.Bool c
     before not_alike a b) (kind_or Kind.Int a)
 
--- a query by the verdict on its condition: what is inside of it, and then the condition's kind
+-- The first fault inside a query, by the verdict on its condition. The condition's kind is tested
+-- later.
 abbrev pub asked_inside : Scope → List ℕ → List Binder → Order → Verdict → Option Reason
 asked_inside s word bs o c = query_names s word bs before fault_in c before order_fault s.models bs
     o
@@ -94,16 +95,16 @@ abbrev mutual
   verdict s (Expression.first bs c o) =
       verdict_by (asked_fault s (codes "first") bs o (verdict (within bs s) c)) (first_kind s bs)
 
-  -- the first fault inside of a part
+  -- The first fault inside of a part.
   pub parts_inside : Scope → Expressions → Option Reason
   parts_inside s Expressions.none = None
   parts_inside s (Expressions.more e es) = fault_in (verdict s e) before parts_inside s es
 
-  -- the first part that is no text
+  -- The fault of the first part that is no text.
   pub parts_kinds : Scope → Expressions → Option Reason
   parts_kinds s Expressions.none = None
   parts_kinds s (Expressions.more e es) = not_a Kind.Text (verdict s e) before parts_kinds s es
 
--- a query's condition
+-- The verdict on a query's condition.
 abbrev pub cond_verdict : Scope → Question → Verdict
 cond_verdict s q = verdict (within q.binders s) q.cond

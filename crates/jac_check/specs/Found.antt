@@ -1,4 +1,4 @@
--- A fault that is found, as the program holds it, and as it is answered.
+-- From the fault that the program found to the fault that the check reports.
 use Rattle.std.specs.Prelude.{List, Option, Some, None, Result, Ok, Err}
 use Rattle.jac_lang.specs.Syntax.{Entity}
 use Rattle.jac_check.specs.declared.fault.CheckFault.{CheckFault}
@@ -15,7 +15,7 @@ place_of spots.Viewer = places.Viewer
 place_of (spots.Model name) = places.Model name.now
 place_of (spots.View number) = places.View number
 
--- the fault among these models
+-- The fault with names from these models.
 abbrev pub found_of : List Entity → Found → CheckFault
 found_of ms f = fault_at_place ms (place_of f.place) (reason_of f.cause)
 

@@ -1,5 +1,5 @@
--- The kind of an expression. Each form has one where its names are known, it may stand where it
--- stands, and its operands have the kinds that it asks.
+-- The kind of an expression. It has one if its names are known, its form is allowed in its scope,
+-- and its operands have the required kinds.
 use Rattle.std.specs.Prelude.{ℕ, Bool, true, false, not, ◌&&◌, ◌||◌, List, [], ◌∷◌, Option, Some, None, is_some, option_map, if◌then◌else◌}
 use Rattle.jac_value.specs.declared.value.Kind.{Kind}
 use Rattle.jac_value.specs.contracts.value.KindPartialEq.TheImpl.{ghosts}
@@ -15,7 +15,7 @@ use Rattle.jac_check.specs.declared.names.Meaning.{Meaning}
 use Rattle.jac_check.specs.Verdict.{is_ordered, is_reference}
 use Rattle.jac_check.specs.Scope.{Scope, meaning_of, within, reference_to, fields_of, field_kind, first_kind, is_one_of}
 
--- the kind, where the test is passed
+-- The kind, if the test is passed.
 abbrev pub kind_if : Bool → Option Kind → Option Kind
 kind_if true k = k
 kind_if false k = None
@@ -57,13 +57,13 @@ is_field fs f = is_some (field_place fs f)
 abbrev pub is_place : List Entity → List ℕ → List ℕ → Bool
 is_place ms m f = is_model ms m && is_field (fields_of ms m) f
 
--- each binder's model is known, and no two have one name
+-- Each binder's model is known, and no two binders have the same name.
 abbrev pub are_binders : List Entity → List (List ℕ) → List Binder → Bool
 are_binders ms seen [] = true
 are_binders ms seen (b ∷ bs) = not (is_one_of b.name seen) && (is_model ms b.model && are_binders ms
     (b.name ∷ seen) bs)
 
--- a binder has this name, and its model this field
+-- A binder has this name, and its model has this field.
 abbrev pub is_sort_key : List Entity → List Binder → List ℕ → List ℕ → Bool
 is_sort_key ms [] x f = false
 is_sort_key ms (b ∷ bs) x f = if same_text b.name x then is_place ms b.model f
@@ -74,13 +74,13 @@ is_order ms bs orders.Key = true
 is_order ms bs (orders.Up x f) = is_sort_key ms bs x f
 is_order ms bs (orders.Down x f) = is_sort_key ms bs x f
 
--- a query whose condition has this kind; none stands in a public expression
+-- Whether a query is well if its condition has this kind. No query may be in a public expression.
 abbrev pub is_query : Scope → List Binder → Order → Option Kind → Bool
 is_query s bs o c = not s.is_public && (are_binders s.models [] bs && (has Kind.Bool c && is_order
     s.models bs o))
 
 abbrev mutual
-  -- the kind of an expression; none where it is not well
+  -- The kind of an expression, or none if it isn't well.
   pub kind_of : Scope → Expression → Option Kind
   kind_of s (Expression.int i) = Some Kind.Int
   kind_of s (Expression.text t) = Some Kind.Text
@@ -112,7 +112,7 @@ abbrev mutual
   kind_of s (Expression.first bs c o) = kind_if (is_query s bs o (kind_of (within bs s) c))
       (Some (first_kind s bs))
 
-  -- each part of a `cat` is a text
+  -- Each part of a `cat` is a text.
   pub are_texts : Scope → Expressions → Bool
   are_texts s Expressions.none = true
   are_texts s (Expressions.more e es) = has Kind.Text (kind_of s e) && are_texts s es

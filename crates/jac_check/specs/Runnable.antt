@@ -1,5 +1,5 @@
--- Statements that a view may run: nothing is written where it answers GET, a record is created in
--- no loop, or in one where its model is nested, and no template is left.
+-- Statements that a view may run: a GET writes nothing, a record is created outside of loops, or in
+-- one loop if its model is nested, and no template is left.
 use Rattle.std.specs.Prelude.{Bool, true, false, not, ◌&&◌, List, IsTrue}
 use Rattle.std.specs.List.{All}
 use Rattle.jac_lang.specs.Lookup.{is_nested_named}
@@ -7,7 +7,7 @@ use Rattle.jac_lang.specs.Loops.{Loops, behind_for, may_create}
 use Rattle.jac_lang.specs.Syntax.{Entity, Statement, Statements, Page, Application}
 use Rattle.jac_check.specs.Scope.{is_get}
 
--- `get` says that the view answers GET; the loops are those around the statement
+-- If `get` is set, the view answers GET. The loops are those around the statement.
 abbrev mutual
   pub is_runnable : Bool → List Entity → Loops → Statement → Bool
   is_runnable get models loops (Statement.put e) = true

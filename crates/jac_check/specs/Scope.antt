@@ -1,5 +1,5 @@
--- What may be used where an expression or a statement appears: the names that are bound there, and
--- more.
+-- The scope of an expression and the context of a statement: the names that are bound, and what
+-- else may be used.
 use Rattle.std.specs.Prelude.{ℕ, Bool, true, false, if◌then◌else◌, List, [], ◌∷◌, ◌++◌, length, Option, Some, None}
 use Rattle.jac_value.specs.declared.value.Kind.{Kind}
 use Rattle.jac_lang.specs.declared.field_kinds.Field.{Field}
@@ -12,14 +12,13 @@ use Rattle.jac_lang.specs.Loops.{Loops, behind_for}
 use Rattle.jac_lang.specs.Syntax.{Expression, FieldGroup, Entity, Page, Application}
 use Rattle.jac_check.specs.declared.names.Meaning.{Meaning}
 
--- a name that is bound; and to what: the kind of its value, and whether a `let` binds it
+-- A bound name and its meaning: the kind of its value, and whether a `let` binds it.
 pub record Named : Type 0 where
   pub name : List ℕ
   pub meaning : Meaning
 
--- where an expression stands: the models; the model of viewers; the kind of `this`, none where the
--- word may not stand; the names that are bound, the innermost last; and whether the expression is
--- public
+-- The scope of an expression: the models, the viewers' model, the kind of `this` (none if the word
+-- isn't allowed), the bound names, the innermost last, and whether the expression is public.
 pub record Scope : Type 0 where
   pub models : List Entity
   pub viewers : Option (List ℕ)
@@ -27,8 +26,8 @@ pub record Scope : Type 0 where
   pub names : List Named
   pub is_public : Bool
 
--- where a statement stands: the models, the model of viewers, the names that are bound, whether its
--- view answers GET, and the loops around it
+-- The context of a statement: the models, the viewers' model, the bound names, whether its view
+-- answers GET, and the loops around it.
 pub record Standing : Type 0 where
   pub models : List Entity
   pub viewers : Option (List ℕ)
@@ -39,7 +38,7 @@ pub record Standing : Type 0 where
 abbrev pub scope_name : List ℕ → Kind → Bool → Named
 scope_name x k by_let = record { name = x; meaning = record { kind = k; by_let = by_let } }
 
--- the innermost of the names, which stands last
+-- The meaning of the innermost binding of the name, which is the last in the list.
 abbrev pub innermost : Option Meaning → List Named → List ℕ → Option Meaning
 innermost found [] x = found
 innermost found (n ∷ ns) x = innermost (if same_text n.name x then Some n.meaning else found) ns x
@@ -47,11 +46,11 @@ innermost found (n ∷ ns) x = innermost (if same_text n.name x then Some n.mean
 abbrev pub meaning_of : List Named → List ℕ → Option Meaning
 meaning_of ns x = innermost None ns x
 
--- a reference to the model of this name
+-- A reference to the model of this name.
 abbrev pub reference_to : List Entity → List ℕ → Kind
 reference_to ms model = kind_named ms (names.Ref model)
 
--- the fields of the model of this name, none where it is not known
+-- The fields of the model of this name, or no fields if the model is unknown.
 abbrev pub fields_placed : List Entity → Option ℕ → List Field
 fields_placed ms None = []
 fields_placed ms (Some m) = fields_at ms m
@@ -63,11 +62,11 @@ abbrev pub kind_placed : List Entity → List Field → Option ℕ → Kind
 kind_placed ms fs None = Kind.Int
 kind_placed ms fs (Some f) = kind_at ms fs f
 
--- the kind of the field of this name
+-- The kind of the field of this name.
 abbrev pub field_kind : List Entity → List Field → List ℕ → Kind
 field_kind ms fs f = kind_placed ms fs (field_place fs f)
 
--- parameters and binders as names that are bound
+-- Parameters and binders as bound names.
 abbrev pub named_fields : List Entity → List Field → List Named
 named_fields ms [] = []
 named_fields ms (f ∷ fs) = scope_name f.name (kind_named ms f.kind) false ∷ named_fields ms fs
@@ -76,16 +75,16 @@ abbrev pub named_binders : List Entity → List Binder → List Named
 named_binders ms [] = []
 named_binders ms (b ∷ bs) = scope_name b.name (reference_to ms b.model) false ∷ named_binders ms bs
 
--- the scope with a query's binders after the names
+-- The scope with a query's binders added to the names.
 abbrev pub within : List Binder → Scope → Scope
 within bs s = record s { names = s.names ++ named_binders s.models bs }
 
--- a reference to the model of the first binder; to no model where there is none
+-- A reference to the model of the first binder. If there is no binder, it refers to no model.
 abbrev pub first_kind : Scope → List Binder → Kind
 first_kind s [] = Kind.Ref (length s.models)
 first_kind s (b ∷ bs) = reference_to s.models b.model
 
--- the scope of the expressions of a statement: no record is `this`, and nothing is public
+-- The scope of a statement's expressions. `this` isn't allowed, and no expression is public.
 abbrev pub scope_at : Standing → Scope
 scope_at st = record {
   models = st.models;
@@ -95,7 +94,7 @@ scope_at st = record {
   is_public = false;
 }
 
--- where the statements stand in which a name is bound, and those of a `for`
+-- The context of the statements in which a name is bound. Below: that of the statements of a `for`.
 abbrev pub bind : Standing → List ℕ → Kind → Bool → Standing
 bind st x k by_let = record st { names = st.names ++ scope_name x k by_let ∷ [] }
 
@@ -105,7 +104,7 @@ loop_within bs st = record st {
   loops = behind_for st.models bs st.loops;
 }
 
--- the scopes of a model's policies and of its public expressions
+-- The scopes of a model's policies and of its public expressions.
 abbrev pub policy_scope : Application → Entity → Scope
 policy_scope app m = record {
   models = app.models;
@@ -122,7 +121,7 @@ abbrev pub is_get : Verb → Bool
 is_get verbs.Get = true
 is_get verbs.Post = false
 
--- where the statements of a view stand: its parameters are bound
+-- The context of a view's statements, in which its parameters are bound.
 abbrev pub page_standing : Application → Page → Standing
 page_standing app v = record {
   models = app.models;
@@ -136,7 +135,7 @@ abbrev pub is_one_of : List ℕ → List (List ℕ) → Bool
 is_one_of x [] = false
 is_one_of x (y ∷ ys) = if same_text y x then true else is_one_of x ys
 
--- one of the fields, of the models has this name
+-- Whether one of the fields has this name. Below: whether one of the models does.
 abbrev pub has_field : List ℕ → List Field → Bool
 has_field x [] = false
 has_field x (f ∷ fs) = if same_text f.name x then true else has_field x fs
@@ -145,12 +144,12 @@ abbrev pub has_model : List ℕ → List Entity → Bool
 has_model x [] = false
 has_model x (m ∷ ms) = if same_text m.name x then true else has_model x ms
 
--- one of the groups guards the field of this name
+-- Whether one of the groups guards the field of this name.
 abbrev pub is_guarded : List ℕ → List FieldGroup → Bool
 is_guarded x [] = false
 is_guarded x (g ∷ gs) = if guards_field x g then true else is_guarded x gs
 
--- one of the groups hides its records
+-- Whether one of the groups hides its records.
 abbrev pub is_hiding : List FieldGroup → Bool
 is_hiding [] = false
 is_hiding (g ∷ gs) = if g.hides then true else is_hiding gs

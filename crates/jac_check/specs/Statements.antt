@@ -1,6 +1,5 @@
 -- The first fault of a statement. Statements that aren't allowed here come first, then names, then
 -- operands, then their kinds, and the statements inside come last.
--- and last the statements inside.
 use Rattle.std.specs.Prelude.{ℕ, Bool, true, false, List, [], ◌∷◌, Option, Some, None, codes}
 use Rattle.jac_value.specs.declared.value.Kind.{Kind}
 use Rattle.jac_lang.specs.declared.field_kinds.Field.{Field}
@@ -16,21 +15,22 @@ use Rattle.jac_check.specs.Expressions.{verdict, cond_verdict, asked_fault, kind
 abbrev pub verdict_at : Standing → Expression → Verdict
 verdict_at st e = verdict (scope_at st) e
 
--- the form writes, and its view answers GET
+-- The fault of a form that writes in a view that answers GET.
 abbrev pub write_fault : Standing → Option Reason
 write_fault st = fault_if st.is_get Reason.write_in_get
 
--- why a record may not be created here: that of a nested model wants one loop, any other none
+-- Why a record may not be created here. A record of a nested model must be created in one loop, any
+-- other in none.
 abbrev pub loop_reason : Bool → List ℕ → Reason
 loop_reason true m = Reason.loop_wanted m
 loop_reason false m = Reason.create_in_loop
 
--- the form creates a record where its model may not have one made
+-- The fault of a form that creates a record where its model doesn't allow it.
 abbrev pub loop_fault : Standing → List ℕ → Option Reason
 loop_fault st m = fault_unless (may_create (is_nested_named st.models m) st.loops)
     (loop_reason (is_nested_named st.models m) m)
 
--- each cell's field is known, and none is named twice
+-- The fault of the names of cells: an unknown field, or a field that is named twice.
 abbrev pub cells_names : List Field → List (List ℕ) → List Assigned → Option Reason
 cells_names fs seen [] = None
 cells_names fs seen (g ∷ gs) =
@@ -41,13 +41,13 @@ abbrev pub cells_inside : Scope → List Assigned → Option Reason
 cells_inside s [] = None
 cells_inside s (g ∷ gs) = fault_in (verdict s g.value) before cells_inside s gs
 
--- each cell has its field's kind
+-- The fault of the kinds of cells: one that isn't of its field's kind.
 abbrev pub cells_kinds : Scope → List Field → List Assigned → Option Reason
 cells_kinds s fs [] = None
 cells_kinds s fs (g ∷ gs) = not_a (field_kind s.models fs g.field) (verdict s g.value) before
     cells_kinds s fs gs
 
--- only a name that a `let` binds is assigned to
+-- The fault of an assignment. Only a name that a `let` binds may be assigned to.
 abbrev pub assigned_fault : Option Meaning → Verdict → Option Reason
 assigned_fault None v = Some (Reason.not_here (codes "assign"))
 assigned_fault (Some m) v = fault_unless m.by_let (Reason.not_here (codes "assign")) before of_kind
@@ -97,7 +97,7 @@ abbrev mutual
   statement_fault st (Statement.template t) = Some (Reason.not_here (codes "template"))
   statement_fault st (Statement.block body) = body_fault st body
 
-  -- the first fault of statements, one after another
+  -- The first fault of statements, one after another.
   pub body_fault : Standing → Statements → Option Reason
   body_fault st Statements.none = None
   body_fault st (Statements.more s ss) = statement_fault st s before body_fault st ss

@@ -6,7 +6,7 @@ use Rattle.jac_value.specs.contracts.value.KindPartialEq.TheImpl.{ghosts}
 use Rattle.jac_check.specs.declared.cause.Expected.{Expected}
 use Rattle.jac_check.specs.declared.cause.Expected.TheVariants as expected
 
--- why a part is not well: a cause whose kinds have the places of their models
+-- Why a part isn't well. References in its kinds have the places of their models.
 pub data Reason : Type 0 where
   unknown : List ℕ → Reason
   twice : List ℕ → Reason
@@ -22,7 +22,7 @@ pub data Verdict : Type 0 where
   fault : Reason → Verdict
 
 infixr 5 ◌before◌
--- the first fault of two tests
+-- The first fault of two tests.
 abbrev pub ◌before◌ : {A : Type 0} → Option A → Option A → Option A
 None before later = later
 (Some found) before later = Some found
@@ -56,16 +56,16 @@ abbrev pub is_reference : Kind → Bool
 is_reference (kinds.Ref m) = true
 is_reference k = false
 
--- the part has another kind than this one
+-- The fault of a part with a kind other than this one.
 abbrev pub not_a : Kind → Verdict → Option Reason
 not_a want (Verdict.kind have) = kind_wanted want have
 not_a want (Verdict.fault reason) = None
 
--- an expression of this kind
+-- The fault of an expression that must have this kind.
 abbrev pub of_kind : Kind → Verdict → Option Reason
 of_kind k v = fault_in v before not_a k v
 
--- the second part has another kind than the first
+-- The fault of a second part with a kind other than the first's.
 abbrev pub not_alike : Verdict → Verdict → Option Reason
 not_alike (Verdict.kind k) b = not_a k b
 not_alike (Verdict.fault reason) b = None

@@ -1,5 +1,5 @@
--- Which statements, models, views and applications are well: names are known and new, nothing
--- stands where it may not, and each expression has the kind that is asked.
+-- Which statements, models, views and applications are well formed: names are known or new, as
+-- required, each part is allowed where it is, and each expression has the required kind.
 use Rattle.std.specs.Prelude.{ℕ, Bool, true, false, not, ◌&&◌, ◌||◌, List, [], ◌∷◌, ◌++◌, Option, Some, None, is_some, unwrap_or}
 use Rattle.jac_value.specs.declared.value.Kind.{Kind}
 use Rattle.jac_value.specs.Paths.{segments, names_in}
@@ -16,7 +16,7 @@ use Rattle.jac_check.specs.Kinds.{has, kind_of, is_model, is_field, is_query}
 abbrev pub kind_here : Standing → Expression → Option Kind
 kind_here st e = kind_of (scope_at st) e
 
--- fields of the model, none of them twice, each with a value of its kind
+-- Fields of the model, none twice, each with a value of its kind.
 abbrev pub are_named : List Field → List (List ℕ) → List Assigned → Bool
 are_named fs seen [] = true
 are_named fs seen (g ∷ gs) = is_field fs g.field && (not (is_one_of g.field seen) && are_named fs
@@ -68,13 +68,13 @@ is_kind ms names.Text = true
 is_kind ms names.Bool = true
 is_kind ms (names.Ref m) = is_model ms m
 
--- fields or parameters: no name twice, each of a known kind
+-- Fields or parameters. No name is there twice, and each kind is known.
 abbrev pub are_fields : List Entity → List Field → List Field → Bool
 are_fields ms earlier [] = true
 are_fields ms earlier (f ∷ fs) = (not (has_field f.name earlier) && is_kind ms f.kind) && are_fields
     ms (earlier ++ f ∷ []) fs
 
--- guards: fields of the model, guarded once, each with a public expression of its kind
+-- Guards of fields of the model. Each field is guarded once, with a public expression of its kind.
 abbrev pub are_guards : Application → Entity → List FieldGroup → List (List ℕ) → List Assigned
     → Bool
 are_guards app m earlier seen [] = true
@@ -83,7 +83,7 @@ are_guards app m earlier seen (g ∷ gs) =
     && has (field_kind app.models m.fields g.field) (kind_of (public_scope app m) g.value))) &&
     are_guards app m earlier (g.field ∷ seen) gs
 
--- at most one group hides the record; guards, and a policy that is a bool
+-- At most one group hides the record. Each group has well guards, and its policy is a bool.
 abbrev pub are_groups : Application → Entity → List FieldGroup → List FieldGroup → Bool
 are_groups app m earlier [] = true
 are_groups app m earlier (g ∷ gs) =
@@ -110,7 +110,7 @@ abbrev pub is_viewer : List Entity → Option (List ℕ) → Bool
 is_viewer ms None = true
 is_viewer ms (Some m) = is_model ms m
 
--- a well application
+-- A well application.
 abbrev pub is_well : Application → Bool
 is_well app = is_viewer app.models app.viewer && (are_models app [] app.models && are_pages app
     app.views)

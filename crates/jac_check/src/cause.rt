@@ -1,6 +1,6 @@
 use jac_value::Kind;
 
-// The kind that a form wants; a reference has the place of its model.
+// The kind that a form requires. A reference has the place of its model.
 #[derive(Clone, Copy)]
 pub(crate) enum Expected {
     One(Kind),
@@ -8,8 +8,7 @@ pub(crate) enum Expected {
     Reference,
 }
 
-// Why a part is not well, with the names where they stand in the application: the tests take no
-// memory.
+// Why a part isn't well. The names are borrowed from the application, so the tests take no memory.
 #[derive(Clone, Copy)]
 pub(crate) enum Cause<'a> {
     UnknownName(&'a str),

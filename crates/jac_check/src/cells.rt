@@ -14,8 +14,8 @@ use crate::scope::Scope;
 use jac_lang::{App, Publics};
 use jac_value::Txt;
 
-// Each cell's field is known, and none is named twice. A model has at most 32 fields, so this goes
-// no deeper.
+// Tests that each cell's field is known, and that none is named twice. A model has at most 32
+// fields, so the recursion is no deeper.
 pub(crate) fn cells_names<'a>(
     app: &App,
     model: &Txt,

@@ -43,7 +43,7 @@ impl Model for Checked {
 }
 
 impl Checked {
-    /// The application, which is what contracts see of this value.
+    /// The application. To contracts, it is the value of this object.
     pub fn app(&self) -> &App
         ensures app { result.now ≡ self.now }
         ensures well { IsTrue (is_well (application_of self.now)) }
@@ -61,9 +61,9 @@ impl Checked {
     }
 }
 
-/// The application where it is well, else its first fault: at the viewers' model, then in each
-/// model, then in each view, in the order of the text. One of 2^32 views or more is answered as
-/// want of memory.
+/// The application if it is well, or else its first fault: in the viewers' model, then in each
+/// model, then in each view, in the order of the text. An application with 2^32 views or more gives
+/// `CheckCause::Memory`.
 pub fn check(alloc: Global, app: App) -> Result<Checked, CheckFault>
     ensures well { IfOk result (λ c. (c ≡ app) × IsTrue (is_well (application_of c))) }
     ensures faultless { IfOk result (λ c. first_fault (application_of c) ≡ None) }

@@ -1,5 +1,5 @@
-//! The kind of an expression. `judge` only looks at the form; what is judged of its operands is put
-//! together in `forms`.
+//! The kind of an expression. `judge` only distinguishes the forms. The verdicts on operands are
+//! combined in `forms`.
 ghost use Rattle.std.specs.Prelude.{◌≡◌, None, codes};
 ghost use Rattle.jac_lang.specs.Mirror.{expression_of, expressions_of, binders_of};
 ghost use Rattle.jac_value.specs.declared.value.Kind.{Kind};
@@ -84,7 +84,7 @@ pub(crate) fn judge_within<'a>(
     judge(e, &inner)
 }
 
-// The parts of a `cat`: a fault inside of one of them comes before a kind that is wrong.
+// The verdict on a `cat`. A fault inside one of its parts comes before a wrong kind of a part.
 #[cycle(judge)]
 fn judge_cat<'a>(parts: &'a Exprs, scope: &Scope<'_>) -> Result<Kind, Cause<'a>>
     ensures { let es = expressions_of parts.now in verdict_of result

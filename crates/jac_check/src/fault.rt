@@ -1,7 +1,7 @@
 use jac_lang::KindName;
 use jac_value::Txt;
 
-/// Where an application is not well.
+/// The place of a fault in an application.
 #[derive(Drop)]
 pub enum Place {
     /// At `(viewer M)`.
@@ -12,7 +12,7 @@ pub enum Place {
     View(u32),
 }
 
-/// The kind that a form wants.
+/// The kind that a form requires.
 #[derive(Drop)]
 pub enum Wanted {
     One(KindName),
@@ -22,7 +22,7 @@ pub enum Wanted {
     Reference,
 }
 
-/// Why an application is not well.
+/// Why an application isn't well.
 #[derive(Drop)]
 pub enum CheckCause {
     /// No model, field, parameter or binding has this name here.
@@ -31,11 +31,11 @@ pub enum CheckCause {
     WrongKind { want: Wanted, have: KindName },
     WriteInGet,
     CreateInLoop,
-    /// A record of this nested model is created in one loop alone, over one binder of a model that
-    /// is not nested.
+    /// A record of this nested model may be created only in one loop, over one binder of a model
+    /// that isn't nested.
     LoopWanted(Txt),
     ViewerInPublic,
-    /// The form that begins with this word, or this name, may not stand here.
+    /// The form that begins with this word, or this name, isn't allowed here.
     NotHere(Txt),
     Memory,
 }

@@ -151,7 +151,7 @@ pub(crate) fn pick_verdict<'a>(
     Ok(a)
 }
 
-// What is inside of a query, with the verdict on its condition.
+// The first fault inside a query, by the verdict on its condition.
 fn asked_inside<'a>(
     scope: &Scope<'_>,
     word: &'a str,

@@ -1,4 +1,4 @@
-//! A fault with its place, as it is found and as it is answered.
+//! A fault with its place, as it is found and as it is returned.
 ghost use Rattle.std.specs.Prelude.{◌≡◌, IfOk, IsTrue, slice_get};
 ghost use Rattle.jac_lang.specs.Mirror.{application_of, entities_of};
 ghost use Rattle.jac_check.specs.Causes.{fault_at, kind_name_of, entity_name, fault_at_place, cause_of, wanted_of};
@@ -12,7 +12,7 @@ use jac_lang::{App, KindName, ModelDef};
 use jac_value::{Kind, Memory, Txt};
 use std::alloc::Global;
 
-// The place of a fault, with the model's name where it stands in the application.
+// The place of a fault. The model's name is borrowed from the application.
 #[derive(Clone, Copy)]
 pub(crate) enum Spot<'a> {
     Viewer,
@@ -41,7 +41,7 @@ pub(crate) fn fault_at<'a>(
     }
 }
 
-/// The fault with names of its own; where memory is wanting, that is the cause.
+/// The fault with copies of its names. If memory runs out, that is the cause.
 pub(crate) fn own(alloc: Global, app: &App, found: &Found<'_>) -> CheckFault
     ensures { IsTrue (is_fault result.cause) → result ≡ found_of (application_of app.now).models
         found.now }

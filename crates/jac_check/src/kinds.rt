@@ -1,4 +1,4 @@
-//! What kinds the forms want.
+//! The kinds that forms require.
 ghost use Rattle.std.specs.Prelude.{◌≡◌};
 ghost use Rattle.jac_check.specs.Verdict.{Verdict, kind_wanted, not_a, not_ordered, not_reference};
 ghost use Rattle.jac_check.specs.Mirror.{fault_of, verdict_of};
@@ -43,7 +43,7 @@ pub(crate) fn want_reference<'a>(have: Kind) -> Result<(), Cause<'a>>
     }
 }
 
-// Where there is a kind, it is this one.
+// Tests that the kind, if there is one, is this one.
 pub(crate) fn not_a<'a>(kind: Kind, have: Result<Kind, Cause<'a>>) -> Result<(), Cause<'a>>
     ensures { fault_of result ≡ not_a kind (verdict_of have.entry) }
 {

@@ -1,4 +1,4 @@
-//! Names and kinds: whether an application is well, or its first fault in the order of the text.
+//! Checks names and kinds. What it accepts is well formed, and it reports the first fault.
 #![tactic(auto)]
 
 mod cause;

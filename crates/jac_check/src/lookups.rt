@@ -10,8 +10,8 @@ use crate::cause::Cause;
 use jac_lang::{App, Field, KindName, field_of, kind_of, model_of};
 use jac_value::{Kind, Txt};
 
-/// The kind of this name, where a reference has the number of its model. A model's name that no
-/// model has counts as the number of the models.
+/// The kind with this name, in which a reference has the number of its model. If no model has the
+/// name, that is the number of models.
 pub(crate) fn kind_by_name(app: &App, kind: &KindName) -> Kind
     ensures { result ≡ kind_named (application_of app.now).models kind.now }
 {
@@ -32,7 +32,7 @@ pub(crate) fn reference_to(app: &App, model: &Txt) -> Kind
     }
 }
 
-/// How many models there are.
+/// The number of models.
 pub(crate) fn count(app: &App) -> u8
     ensures { result ≡ length (application_of app.now).models }
 {
@@ -48,7 +48,7 @@ pub(crate) fn known_model<'a>(app: &App, model: &'a Txt) -> Result<(), Cause<'a>
     }
 }
 
-/// A model and a field of it are known.
+/// Tests that the model and its field are known.
 pub(crate) fn known_place<'a>(app: &App, model: &'a Txt, field: &'a Txt) -> Result<(), Cause<'a>>
     ensures { fault_of result ≡ unknown_place (application_of app.now).models model.now field.now }
 {
@@ -69,7 +69,7 @@ pub(crate) fn known_field<'a>(app: &App, model: u8, field: &'a Txt) -> Result<()
     }
 }
 
-/// The model has this field; a model that is not known has none.
+/// Tests that the model has this field. An unknown model has none.
 pub(crate) fn known_field_of<'a>(app: &App, model: &Txt, field: &'a Txt) -> Result<(), Cause<'a>>
     ensures { let models = (application_of app.now).models in fault_of result ≡ unknown_field
         (fields_of models model.now) field.now }
@@ -102,7 +102,7 @@ pub(crate) fn kind_in(app: &App, model: u8, field: &Txt) -> Kind
     }
 }
 
-/// The field is one of these.
+/// Tests that one of these fields has the name.
 pub(crate) fn known_field_among<'a>(fields: &[Field], field: &'a Txt) -> Result<(), Cause<'a>>
     ensures { fault_of result ≡ unknown_field fields.now field.now }
 {

@@ -6,8 +6,8 @@ ghost use Rattle.jac_check.specs.Mirror.{loops_of};
 
 use jac_lang::{App, Binders, is_nested};
 
-// The loops around a statement. Of one alone: whether it goes over one binder, of a model that is
-// not nested.
+// The loops around a statement. `Single` says whether the loop is over one binder of a model that
+// isn't nested.
 #[derive(Clone, Copy)]
 pub(crate) enum Around {
     Nowhere,
@@ -37,7 +37,7 @@ fn is_flat(app: &App, binders: &Binders) -> bool
     }
 }
 
-// A record of a model that is nested, or is not.
+// Whether a record may be created here, by whether its model is nested.
 pub(crate) fn may_create(nested: bool, around: Around) -> bool
     ensures { result ≡ may_create nested (loops_of around) }
 {

@@ -28,7 +28,7 @@ pub(crate) fn fields_fault<'a>(app: &App, fields: &'a [Field]) -> Result<(), Cau
     Ok(())
 }
 
-// A field or a parameter, after those before it.
+// The fault of a field or a parameter, given those before it.
 fn field_fault<'a>(app: &App, earlier: &[Field], field: &'a Field) -> Result<(), Cause<'a>>
     ensures { fault_of result ≡ field_fault (application_of app.now).models earlier.now field.now }
 {
@@ -41,7 +41,7 @@ fn field_fault<'a>(app: &App, earlier: &[Field], field: &'a Field) -> Result<(),
     }
 }
 
-/// One of the fields has this name.
+/// Whether one of the fields has this name.
 pub(crate) fn has_field(fields: &[Field], name: &str) -> bool
     ensures { result ≡ has_field name.now fields.now }
 {
@@ -150,7 +150,7 @@ fn group_fault<'a>(
     want(Kind::Bool, have)
 }
 
-// A model has at most 32 fields, so this goes no deeper.
+// A model has at most 32 fields, so the recursion is no deeper.
 fn guards_fault<'a>(
     app: &App,
     model: &ModelDef,

@@ -7,7 +7,7 @@ use crate::lookups::{kind_by_name, reference_to};
 use jac_lang::{App, Binders, Field, Fields};
 use jac_value::{Kind, Txt};
 
-// The names that are bound, from the innermost out.
+// The bound names, the innermost first.
 #[derive(Clone, Copy)]
 pub(crate) enum Names<'n> {
     Nothing,
@@ -24,14 +24,14 @@ pub(crate) enum Names<'n> {
     },
 }
 
-// What a name is bound to: the kind of its value, and whether a `let` binds it.
+// The meaning of a bound name: the kind of its value, and whether a `let` binds it.
 #[derive(Clone, Copy)]
 pub(crate) struct Meaning {
     pub kind: Kind,
     pub by_let: bool,
 }
 
-// What the innermost binding of the name is.
+// The meaning of the innermost binding of the name.
 pub(crate) fn look_up(app: &App, names: &Names<'_>, name: &Txt) -> Option<Meaning>
     ensures { result ≡ meaning_of (names_of (application_of app.now).models names.now) name.now }
 {

@@ -11,7 +11,7 @@ use jac_lang::Field;
 use jac_value::{first_part, segment_name, segments_of};
 use std::str::from_utf8;
 
-/// Each name in the path is one of the parameters.
+/// Tests that each name in the path is one of the parameters.
 #[tactic(auto, using(crate::proofs::PathNames::segment_first))]
 pub(crate) fn path_fault<'a>(params: &[Field], path: &'a str) -> Result<(), Cause<'a>>
     ensures { fault_of result ≡ path_fault params.now (names_in (segments path.now)) }
@@ -27,7 +27,7 @@ pub(crate) fn path_fault<'a>(params: &[Field], path: &'a str) -> Result<(), Caus
     Ok(())
 }
 
-// The name in the segment, where it has one, is one of the parameters.
+// Tests that the name in the segment, if it has one, is one of the parameters.
 fn segment_fault<'a>(params: &[Field], segment: &'a [u8]) -> Result<(), Cause<'a>>
     ensures { fault_of result ≡ path_fault params.now (names_in (segment.now ∷ [])) }
 {

@@ -11,7 +11,7 @@ use crate::scope::Scope;
 use jac_lang::{App, Binders, Order};
 use jac_value::Txt;
 
-// Names that were given, the last of them first.
+// Names that were seen, the last first.
 #[derive(Clone, Copy)]
 pub(crate) enum Seen<'n> {
     Nothing,
@@ -33,7 +33,7 @@ impl Seen<'_> {
     }
 }
 
-// The form with this head may stand here, and its binders are well.
+// Tests that the form with this head is allowed here, and that its binders are well.
 pub(crate) fn query_names<'a>(
     scope: &Scope<'_>,
     word: &'a str,

@@ -50,7 +50,7 @@ fn put_model(model: &ModelDef, to: &mut String) -> Result<(), Memory>
     Ok(())
 }
 
-// What follows a model's name.
+// Prints the parts after a model's name.
 fn put_parts(model: &ModelDef, to: &mut String) -> Result<(), Memory>
     ensures { OnOk result (string_bytes to.new ≡ string_bytes to.old ++ printed_after
         (nested_atom_before model.now.nested (list_trees (entity_of model.now)))) }
@@ -163,7 +163,7 @@ fn put_group(group: &Group, to: &mut String) -> Result<(), Memory>
     }
 }
 
-// The fields that a group guards.
+// Prints the fields that a group guards.
 fn put_guarded(guards: &Publics, to: &mut String) -> Result<(), Memory>
     ensures { OnOk result (string_bytes to.new ≡ string_bytes to.old ++ printed_tree
         (PlainTree.list (guard_trees (assigned_of guards.now)))) }
@@ -177,7 +177,7 @@ fn put_guarded(guards: &Publics, to: &mut String) -> Result<(), Memory>
     Ok(())
 }
 
-// The guards that stand after another one.
+// Prints the guards that follow another one.
 fn put_guards(guards: &Publics, to: &mut String) -> Result<(), Memory>
     ensures { OnOk result (string_bytes to.new ≡ string_bytes to.old ++ printed_after
         (guard_trees (assigned_of guards.now))) }

@@ -2,7 +2,7 @@ use crate::names::Names;
 use jac_lang::App;
 use jac_value::Kind;
 
-// Where an expression stands. `this` is none where the word may not stand.
+// The scope of an expression. `this` is `None` if the word isn't allowed.
 #[derive(Clone, Copy)]
 pub(crate) struct Scope<'s> {
     pub app: &'s App,

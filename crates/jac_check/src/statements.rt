@@ -1,5 +1,5 @@
-//! The first fault of a statement. `statement_fault` only looks at the form; the forms without
-//! statements inside are functions of their own, outside of the recursion.
+//! The first fault of a statement. `statement_fault` only distinguishes the forms. The forms
+//! without statements inside have functions of their own, outside of the recursion.
 ghost use Rattle.std.specs.Prelude.{◌≡◌, true, false};
 ghost use Rattle.jac_value.specs.declared.value.Kind.{Kind};
 ghost use Rattle.jac_lang.specs.Mirror.{assigned_of, binders_of, expression_of, question_of, statement_of, statements_of};
@@ -22,7 +22,7 @@ use crate::scope::Scope;
 use jac_lang::{App, Binders, Expr, Publics, Query, Stmt, Stmts, is_nested};
 use jac_value::{Kind, Txt};
 
-// Where a statement stands.
+// The context of a statement.
 #[derive(Clone, Copy)]
 pub(crate) struct Standing<'s> {
     pub app: &'s App,
@@ -142,7 +142,7 @@ fn create_and_body_fault<'a>(
     bound_fault(name, reference_to(at.app, model), false, body, at)
 }
 
-// The statements in which a name is bound.
+// The first fault of the statements in which a name is bound.
 #[cycle(statements)]
 fn bound_fault<'a>(
     name: &Txt,
@@ -193,7 +193,7 @@ fn expression_fault<'a>(e: &'a Expr, at: &Standing<'_>) -> Result<(), Cause<'a>>
     Ok(())
 }
 
-// An expression of this kind.
+// Tests that the expression is well and has this kind.
 fn kind_fault<'a>(kind: Kind, e: &'a Expr, at: &Standing<'_>) -> Result<(), Cause<'a>>
     ensures { fault_of result ≡ of_kind kind (verdict_at (standing_of at.now)
         (expression_of e.now)) }

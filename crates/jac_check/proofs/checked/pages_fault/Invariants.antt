@@ -3,7 +3,7 @@ use Rattle.jac_lang.specs.Mirror.{application_of, pages_of}
 use Rattle.jac_check.specs.Applications.{pages_fault}
 use Rattle.jac_check.proofs.checked.pages_fault.Given as goal
 
--- the views so far have no fault
+-- The views so far have no fault.
 abbrev pub invariant-loop-view : goal.invariant-loop-view
 invariant-loop-view l =
     let app = application_of l.app in

@@ -6,7 +6,8 @@ use Rattle.jac_check.specs.Expressions.{parts_inside, parts_kinds}
 use Rattle.jac_check.specs.Mirror.{fault_of, scope_of}
 use Rattle.jac_check.proofs.expressions.+judge.Given as goal
 
--- nothing is wrong inside of the parts so far; and a kind that was wrong so far comes before those of the rest
+-- Inside the parts so far there is no fault. A wrong kind of a part so far comes before those of
+-- the rest.
 abbrev pub invariant-judge_cat-parts : goal.invariant-judge_cat-parts
 invariant-judge_cat-parts l = record {
   no_deeper : size-Exprs l.left ≤ size-Exprs l.parts;

@@ -4,7 +4,7 @@ use Rattle.jac_tree.specs.Printed.{printed_after}
 use Rattle.jac_check.specs.Schema.{model_trees}
 use Rattle.jac_check.proofs.schema.put_models.Given as goal
 
--- what was put, before what is left, is all
+-- The text so far, followed by that of what is left, is the text of all.
 abbrev pub invariant-models : goal.invariant-models
 invariant-models l =
     string_bytes l.to ++ printed_after (model_trees (entities_of (drop l.model-index l.models)))

@@ -6,7 +6,7 @@ use Rattle.jac_check.specs.Statements.{body_fault}
 use Rattle.jac_check.specs.Mirror.{standing_of}
 use Rattle.jac_check.proofs.statements.+statements.Given as goal
 
--- the statements so far have no fault
+-- The statements so far have no fault.
 abbrev pub invariant-body_fault-statements : goal.invariant-body_fault-statements
 invariant-body_fault-statements l = record {
   no_deeper : size-Stmts l.left ≤ size-Stmts l.body;
