@@ -1,4 +1,4 @@
--- The number of a demo is within the bounds that its words have.
+-- The number of a demo is within the bounds of the definition.
 use Rattle.std.proofs.Common.{arith, ◌≡◌, sym, subst, refl, ℕ, ◌≤◌, ◌&&◌, Bool, true, false, nat_le, if◌then◌else◌, Option, Some, None, List, [], ◌∷◌, codes}
 use Rattle.std.specs.Prelude.{⊤}
 use Rattle.std.specs.Option.{option_map, option_and_then}
@@ -33,7 +33,7 @@ map_counts : (A : Type 0) (f : A → Command) (o : Option A) → ((a : A) → Ha
 map_counts A f None h = tt
 map_counts A f (Some a) h = h a
 
--- a number that passes both tests
+-- A number that passes both tests is within the bounds.
 both : (least most : Bool) (n : ℕ) → (least ≡ true → 1 ≤ n) → (most ≡ true → n ≤ 2000) → IsBetween (if least && most then Some n else None)
 both true true n least most = (least refl, most refl)
 both true false n least most = tt
@@ -101,7 +101,7 @@ unless_counts : (kinds : Kinds) (o : Option Command) → HasCounts o → HasCoun
 unless_counts [] o h = h
 unless_counts (kind ∷ kinds) o h = tt
 
--- the number of a demo that words give
+-- The number of a demo that words give is within the bounds.
 pub has_count : (words : List (List ℕ)) (command : Command) → Some command ≡ command_of words → HasCount command
 has_count words command is =
     subst HasCounts (sym is)

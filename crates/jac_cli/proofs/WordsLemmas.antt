@@ -1,4 +1,4 @@
--- What clap's two answers mean for the command, and digits, which are ASCII and so UTF-8.
+-- What clap's two answers mean for the command. Digits are ASCII and so UTF-8.
 use Rattle.std.proofs.Common.{◌≡◌, ◌≢◌, inl, inr, true, Option, None, [], ◌∷◌, refl}
 use Rattle.clap.specs.Words.{HasKind, Kinds, is_simple, is_simple_and_free, kind_of}
 use Rattle.clap.specs.declared.Error.{Error}
@@ -19,7 +19,7 @@ jac_free = refl
 pub taken : (kinds : Kinds) (command : Option Command) → kinds ≡ [] → command ≡ unless_fault kinds command
 taken kinds command none = rw none refl
 
--- an error that isn't want of memory has one of the kinds, so there is one
+-- An error that isn't out of memory has one of the kinds, so the words have a fault.
 pub refused : (kinds : Kinds) (e : Error) (command : Option Command) → HasKind kinds e → (kind_of e ≢ OutOfMemory) → None ≡ unless_fault kinds command
 refused [] e command (inl memory) not_memory = absurd (not_memory memory)
 refused [] e command (inr among) not_memory = absurd among

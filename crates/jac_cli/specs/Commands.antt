@@ -5,12 +5,12 @@ use Rattle.jac_cli.specs.declared.words.Command.TheVariants as commands
 use Rattle.jac_cli.specs.declared.role.Role.{Role}
 use Rattle.jac_cli.specs.declared.role.Role.TheVariants as roles
 
--- a file that isn't named has the empty name
+-- A file that isn't named has the empty name.
 abbrev pub name_or_empty : Option (List ℕ) → List ℕ
 name_or_empty None = []
 name_or_empty (Some name) = name
 
--- the file of a command that has this role
+-- The file of a command with this role.
 abbrev pub file_of : Command → Role → Option (List ℕ)
 file_of (commands.Check app) roles.App = Some app
 file_of (commands.Check app) roles.New = None
@@ -41,7 +41,7 @@ file_of (commands.Why explaining) roles.Events = None
 abbrev pub name_of : Command → Role → List ℕ
 name_of command role = name_or_empty (file_of command role)
 
--- the file that the audit is aimed at, and that of the store
+-- The file of the audit. Below, that of the store.
 abbrev pub audit_of : Command → Option (List ℕ)
 audit_of (commands.Replay replay) = replay.audit
 audit_of (commands.Serve serving) = serving.audit
@@ -55,18 +55,18 @@ db_of (commands.Upgrade upgrading) = Some upgrading.db
 db_of (commands.Why explaining) = explaining.db
 db_of command = None
 
--- a page of a GET resolves only the labels that it consults
+-- Whether a page of a GET resolves only the labels that it consults.
 abbrev pub lazy_of : Command → Bool
 lazy_of (commands.Replay replay) = replay.lazy
 lazy_of (commands.Serve serving) = serving.lazy
 lazy_of command = false
 
--- the number of a demo is one that words may give
+-- The number of a demo is one that words may give.
 abbrev pub HasCount : Command → Type 0
 HasCount (commands.Demo n) = (1 ≤ n) × (n ≤ 2000)
 HasCount command = ⊤
 
--- how many bytes each file may hold
+-- The number of bytes that each file may have.
 abbrev pub limit_of : Role → ℕ
 limit_of roles.App = 1048576
 limit_of roles.New = 1048576

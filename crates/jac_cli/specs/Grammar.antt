@@ -5,15 +5,15 @@ use Rattle.clap.specs.Words.{App, Rule, new_app, new_rule, with_rule, with_subco
 use Rattle.clap.specs.Simple.{on_top}
 use Rattle.clap.specs.declared.builder.action.ArgAction.TheVariants.{Set, SetTrue}
 
--- a word that has to be there
+-- A word that is required.
 abbrev pub operand_rule : List ℕ → Rule
 operand_rule name = record (new_rule name) { action = Some Set; required = true }
 
--- a value that may be there, as `--NAME VALUE` or `--NAME=VALUE`
+-- An optional value, as `--NAME VALUE` or `--NAME=VALUE`.
 abbrev pub option_rule : List ℕ → Rule
 option_rule name = record (new_rule name) { long = Some name; action = Some Set }
 
--- a word that may be there once, as `--NAME`
+-- An optional word that is there at most once, as `--NAME`.
 abbrev pub flag_rule : List ℕ → Rule
 flag_rule name = record (new_rule name) { long = Some name; action = Some SetTrue }
 
@@ -26,7 +26,7 @@ with_option name app = with_rule app (option_rule name)
 abbrev pub with_flag : List ℕ → App → App
 with_flag name app = with_rule app (flag_rule name)
 
--- the files of a run that serves
+-- The files of a command that serves.
 abbrev pub with_files : App → App
 with_files app = with_option (codes "audit") (with_option (codes "sessions")
     (with_option (codes "db") app))
@@ -65,7 +65,7 @@ why_app = with_option (codes "db") (with_operand (codes "VIEWER") (with_operand 
 abbrev pub with_command : App → App → App
 with_command command app = with_subcommand app command.top
 
--- one command, after no other word; there is no word or option for help
+-- A command without other words. There is no word or option for help.
 abbrev pub bare_app : App
 bare_app = on_top (λ s. record s {
   no_binary_name = true;

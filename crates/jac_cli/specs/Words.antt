@@ -1,5 +1,5 @@
--- The command that the words after the program's name give. Which word is a command, an operand,
--- an option or its value is `clap`'s own meaning of the grammar `jac`.
+-- The command that the words after the program's name give, as `clap` parses them by the grammar
+-- `jac`.
 use Rattle.std.specs.Prelude.{ℕ, Bool, false, not, ◌==◌, ◌&&◌, ◌^◌, ◌-◌, nat_le, nat_lt, if◌then◌else◌, List, [], ◌∷◌, length, slice_index, codes, Option, Some, None}
 use Rattle.std.specs.Option.{option_map, option_map_or, option_and_then}
 use Rattle.std.specs.List.{list_all, slice_split}
@@ -15,15 +15,15 @@ use Rattle.jac_cli.specs.declared.words.Options.{Options}
 
 -- ---- texts and numbers
 
--- a text that isn't empty
+-- A text that isn't empty.
 abbrev pub filled_text : List ℕ → Option (List ℕ)
 filled_text text = if length text == 0 then None else Some text
 
--- a 0 (48) with more after it
+-- A 0 (48) with more digits after it.
 abbrev pub has_leading_zero : List ℕ → Bool
 has_leading_zero word = slice_index word 0 == 48 && nat_lt 1 (length word)
 
--- decimal digits, with no sign, and with a leading zero only in `0` itself
+-- Decimal digits with no sign. Only `0` itself begins with a zero.
 abbrev pub is_number_word : List ℕ → Bool
 is_number_word word = nat_lt 0 (length word) && list_all is_ascii_digit word && not
     (has_leading_zero word)
@@ -32,7 +32,7 @@ abbrev pub number_between : ℕ → ℕ → ℕ → Option ℕ
 number_between least most number = if nat_le least number && nat_le number most then Some number
     else None
 
--- the number that the word writes, where it is within
+-- The number that the word writes, if it is within the bounds.
 abbrev pub number_within : ℕ → ℕ → List ℕ → Option ℕ
 number_within least most word = if is_number_word word then number_between least most
     (digits_value 10 word)
@@ -46,18 +46,18 @@ labels_of_parts [] = Some []
 labels_of_parts (part ∷ parts) = option_and_then (λ label. option_map (λ labels. label ∷ labels)
     (labels_of_parts parts)) (label_of_word part)
 
--- `-` for no label, or labels with commas (44) between them
+-- `-` for no label, or labels separated by commas (44).
 abbrev pub labels_of_word : List ℕ → Option (List ℕ)
 labels_of_word word = if bytes_eq word (codes "-") then Some []
     else labels_of_parts (slice_split (λ b. b == 44) word)
 
 -- ---- what the words gave a command
 
--- the file that an operand names
+-- The file that an operand names.
 abbrev pub file_in : List ℕ → List Row → Option (List ℕ)
 file_in id rows = option_and_then filled_text (first_of id rows)
 
--- the file that an option names, where the option is there; an empty name gives no command
+-- The file that an option names, if the option is there. If its name is empty, there is no command.
 abbrev pub option_of : Option (List ℕ) → Option (Option (List ℕ))
 option_of None = Some None
 option_of (Some text) = option_map (λ file. Some file) (filled_text text)
@@ -65,11 +65,11 @@ option_of (Some text) = option_map (λ file. Some file) (filled_text text)
 abbrev pub option_in : List ℕ → List Row → Option (Option (List ℕ))
 option_in id rows = option_of (first_of id rows)
 
--- the option without a value is there: clap gives it the text `true` there, and `false` elsewhere
+-- The option without a value is there: clap gives it the text `true` if it is, and `false` if not.
 abbrev pub flag_in : List ℕ → List Row → Bool
 flag_in id rows = option_map_or (λ text. bytes_eq text (codes "true")) (first_of id rows) false
 
--- a number from 1 on
+-- A number from 1 to `most`.
 abbrev pub positive_number : ℕ → List ℕ → List Row → Option ℕ
 positive_number most id rows = option_and_then (number_within 1 most) (first_of id rows)
 
@@ -139,7 +139,7 @@ dump_in rows =
     (option_and_then labels_of_word (first_of (codes "LABELS") rows)))
     (file_in (codes "APP") rows)
 
--- without a store there is nothing to upgrade
+-- Without a store, there is nothing to upgrade.
 abbrev pub upgrade_in : List Row → Option Command
 upgrade_in rows =
     option_and_then (λ app.
@@ -176,6 +176,6 @@ abbrev pub unless_fault : Kinds → Option Command → Option Command
 unless_fault [] command = command
 unless_fault (kind ∷ kinds) command = None
 
--- the command that the words give, and none where clap finds a fault
+-- The command that the words give, or none if clap finds a fault.
 abbrev pub command_of : List (List ℕ) → Option Command
 command_of words = unless_fault (fault_of jac words) (entered_command (subcommand_of jac words))

@@ -1,4 +1,4 @@
-//! The words after the program's name, and the command that they give.
+//! Reads the command line: which command the words after the program's name give.
 #![tactic(auto)]
 
 mod role;

@@ -1,8 +1,8 @@
-/// Which file of a command.
+/// The role of a file in a command.
 #[derive(Clone, Copy, PartialEq, Eq)]
 pub enum Role {
     App,
-    /// The application that an upgrade brings a store to.
+    /// The application to which a store is upgraded.
     New,
     Sessions,
     Events,

@@ -17,7 +17,7 @@ use labels::labels_of;
 use numbers::number_within;
 use std::alloc::Global;
 
-/// What the words ask the program to do.
+/// The command that the words give.
 #[derive(Drop)]
 pub enum Command {
     /// The application's file.
@@ -43,7 +43,7 @@ pub struct Replay {
     pub lazy: bool,
 }
 
-/// An application to serve, on a port from 1 on, for a count of connections from 1 to 1,000,000.
+/// An application to serve, on a port from 1 on, for 1 to 1,000,000 connections.
 #[derive(Drop)]
 pub struct ServeArgs {
     pub app: Txt,
@@ -56,7 +56,7 @@ pub struct ServeArgs {
     pub lazy: bool,
 }
 
-/// A store to print, as it looks where the labels are shown.
+/// A store to print, as it looks if these labels are shown.
 #[derive(Drop)]
 pub struct DumpArgs {
     pub app: Txt,
@@ -64,7 +64,7 @@ pub struct DumpArgs {
     pub db: Option<Txt>,
 }
 
-/// A store of an application, to bring to the next one.
+/// A store of an application, to upgrade to the next application.
 #[derive(Drop)]
 pub struct UpgradeArgs {
     pub app: Txt,
@@ -72,8 +72,8 @@ pub struct UpgradeArgs {
     pub db: Txt,
 }
 
-/// A store of which to tell what stands against each label that a viewer isn't shown. The viewer is
-/// the number of a record, as the word has it.
+/// A store to explain: what prevents each label that a viewer isn't shown. The viewer is the number
+/// of a record, as the word has it.
 #[derive(Drop)]
 pub struct WhyArgs {
     pub app: Txt,
@@ -81,7 +81,7 @@ pub struct WhyArgs {
     pub db: Option<Txt>,
 }
 
-// What the options of a run that serves say.
+// The values of the options of a command that serves.
 #[derive(Drop)]
 struct Options {
     db: Option<Txt>,
@@ -90,8 +90,8 @@ struct Options {
     lazy: bool,
 }
 
-/// The command that the words after the program's name give. Where they give none, that is no
-/// error: the caller shows the usage.
+/// The command that the words after the program's name give. None isn't an error: the caller shows
+/// the usage.
 pub fn command_of(alloc: Global, words: &[Txt]) -> Result<Option<Command>, Memory>
     ensures { IfOk result (λ command. command ≡ command_of words.now) }
 {
@@ -296,7 +296,7 @@ fn options_in(alloc: Global, matches: &ArgMatches<'_>) -> Result<Option<Options>
     }))
 }
 
-// The file that an operand names, or an option that has to be there.
+// The file that an operand or a required option names.
 fn file_in(alloc: Global, matches: &ArgMatches<'_>, id: &str) -> Result<Option<Txt>, Memory>
     ensures { IfOk result (λ file. file ≡ file_in id.now (rows_of (found_of matches.now))) }
 {
@@ -306,7 +306,7 @@ fn file_in(alloc: Global, matches: &ArgMatches<'_>, id: &str) -> Result<Option<T
     }
 }
 
-// The file that an option names, where the option is there.
+// The file that an option names, if the option is there.
 fn option_in(
     alloc: Global,
     matches: &ArgMatches<'_>,
@@ -361,7 +361,7 @@ fn count_in(matches: &ArgMatches<'_>) -> Option<u32>
     }
 }
 
-// A number from 1 on.
+// A number from 1 to `most`.
 fn number_in(matches: &ArgMatches<'_>, id: &str, most: u64) -> Option<u64>
     ensures number { result ≡ positive_number most id.now (rows_of (found_of matches.now)) }
     ensures within { IfSome result (λ n. n ≤ most) }
@@ -393,7 +393,7 @@ fn labels_in(alloc: Global, matches: &ArgMatches<'_>) -> Result<Option<Labels>, 
     }
 }
 
-// The viewer, as a line of an events file names one.
+// The viewer, written as in a line of an events file.
 fn viewer_in(matches: &ArgMatches<'_>) -> Option<Option<u128>>
     ensures { result ≡ option_and_then viewer_read (first_of (codes "VIEWER")
         (rows_of (found_of matches.now))) }
@@ -404,7 +404,7 @@ fn viewer_in(matches: &ArgMatches<'_>) -> Option<Option<u128>>
     }
 }
 
-// What the words gave the operand or the option of this name.
+// The value that the words give to the operand or option with this name.
 fn value_in<'a>(matches: &ArgMatches<'a>, id: &str) -> Option<&'a str>
     ensures { option_map (λ text. text.now) result ≡ first_of id.now
         (rows_of (found_of matches.now)) }

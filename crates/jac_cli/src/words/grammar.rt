@@ -21,7 +21,7 @@ pub(super) fn jac<'a>(alloc: Global) -> Result<Command<'a>, Memory>
     with_command(command, why(alloc)?)
 }
 
-// No command yet, and neither an option nor a word for help.
+// A grammar without commands, and without an option or a word for help.
 fn bare<'a>(alloc: Global) -> Command<'a>
     ensures { app_of result ≡ bare_app }
 {

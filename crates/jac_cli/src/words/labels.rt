@@ -54,7 +54,7 @@ fn with_label(alloc: Global, assignment: &Assignment, label: Label) -> Result<As
     }
 }
 
-/// The labels that a word writes: `-` for none, or numbers with commas between them.
+/// The labels that a word writes: `-` for none, or numbers separated by commas.
 pub(super) fn labels_of(alloc: Global, word: &[u8]) -> Result<Option<Labels>, Memory>
     ensures { IfOk result (λ labels. labels ≡ labels_of_word word.now) }
 {

@@ -3,7 +3,7 @@ ghost use Rattle.jac_cli.specs.Words.{number_between, has_leading_zero, is_numbe
 
 use jac_value::{are_digits, decimal};
 
-/// The number that decimal digits write, where it is neither below `least` nor above `most`.
+/// The number that decimal digits write, if it is neither below `least` nor above `most`.
 pub(super) fn number_within(word: &[u8], least: u128, most: u128) -> Option<u128>
     ensures { result ≡ number_within least most word.now }
 {

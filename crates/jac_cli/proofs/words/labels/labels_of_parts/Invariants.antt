@@ -5,7 +5,7 @@ use Rattle.jac_value.specs.Parts.{parts_left, option_now, length_left}
 use Rattle.jac_cli.specs.Words.{labels_of_parts}
 use Rattle.jac_cli.proofs.words.labels.labels_of_parts.Given as goal
 
--- the labels so far, before those of the parts that are left
+-- The labels so far, followed by those of the parts that are left, are the result.
 abbrev pub invariant-parts : goal.invariant-parts
 invariant-parts l =
     option_map (λ labels. l.labels.items ++ labels) (labels_of_parts (parts_left 44 (option_now l.left)))
