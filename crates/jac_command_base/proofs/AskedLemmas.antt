@@ -1,4 +1,4 @@
--- which files were asked for
+-- Which files a command has read.
 use Rattle.std.specs.Prelude.{option_to_list}
 use Rattle.std.proofs.Common.{◌≡◌, ◌∙◌, ap, refl, sym, ℕ, Option, Some, List, [], ◌∷◌, ◌++◌, append-nil, arith}
 use Rattle.std.proofs.lemmas.Grind.{common_steps}
@@ -12,23 +12,23 @@ use Rattle.jac_command_base.specs.declared.startup.StoreCommand.TheVariants as o
 use Rattle.jac_command_base.specs.Files.{AsksForFiles, files_named, files_of}
 use Rattle.jac_command_base.specs.Startup.{command_in}
 
--- these were, and then those
+-- First these files were read, and then those.
 pub asked_then : (a b d front more : List (List ℕ)) → b ≡ a ++ front → d ≡ b ++ more → d ≡ a ++ (front ++ more)
 asked_then a b d front more one two = grind (arith, common_steps, one, two)
 
--- none was yet
+-- No file was read yet.
 pub asks_none : (a : FilesSeen) (names : List (List ℕ)) (done : Type 0) → (done → names ≡ []) → AsksForFiles (span a a) names done
 asks_none a names done all = record { front = []; rest = names; parts = refl; asked = sym (append-nil a.asked); all = all }
 
--- all were
+-- All files were read.
 pub asks_all : (a b : FilesSeen) (names : List (List ℕ)) (done : Type 0) → b.asked ≡ a.asked ++ names → AsksForFiles (span a b) names done
 asks_all a b names done asked = record { front = names; rest = []; parts = sym (append-nil names); asked = asked; all = λ is_done. refl }
 
--- the same, where more is done only where that is
+-- The same, under a stronger condition for reading all.
 pub asks_before : (files : Span FilesSeen) (names : List (List ℕ)) (done more : Type 0) → (more → done) → AsksForFiles files names done → AsksForFiles files names more
 asks_before files names done more earlier h = record { front = h.front; rest = h.rest; parts = h.parts; asked = h.asked; all = λ is_done. h.all (earlier is_done) }
 
--- those of words that are this command
+-- The files of a command that words give.
 pub asks_named : (files : Span FilesSeen) (words : Option Command) (command : Command) (done more : Type 0) → words ≡ Some command → (more → done)
     → AsksForFiles files (files_of command) done → AsksForFiles files (files_named words) more
 asks_named files words command done more is earlier h = record {
@@ -39,7 +39,7 @@ asks_named files words command done more is earlier h = record {
   all = λ is_done. h.all (earlier is_done);
 }
 
--- what a command names that begins with a store
+-- The files of a command that begins with a store, in order.
 pub files_in_order : (opening : StoreCommand) → files_of (command_in opening)
     ≡ name_of (command_in opening) roles.App ∷ (option_to_list (file_of (command_in opening) roles.Sessions) ++ option_to_list (file_of (command_in opening) roles.Events))
 files_in_order (openings.Replay replay) = refl

@@ -1,4 +1,4 @@
--- status 0 comes where nothing ended early
+-- The status is 0 only if nothing ended early.
 use Rattle.std.proofs.Common.{◌≡◌, ◌∙◌, refl, sym, inl, inr, ℕ, IsOk, Result, Ok, Err, List}
 use Rattle.jac_io.specs.Seen.{SinkSeen}
 use Rattle.jac_serve_events.specs.Outside.{Span}

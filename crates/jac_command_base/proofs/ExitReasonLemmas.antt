@@ -21,14 +21,14 @@ use Rattle.jac_command_base.specs.Attached.{IsAttached, AttachesAs}
 use Rattle.jac_command_base.specs.Early.{EndsOpening}
 use Rattle.jac_serve_events.proofs.OutsideLemmas.{Lasts-none, Took-none, Rose-widen, failed_later}
 
--- what is seen of files between two moments of a run
+-- What is seen of files between two moments of a run.
 pub record IsWithin (files part : Span FilesSeen) : Type 0 where
   pub earlier : files.before.faults ≤ part.before.faults
   pub later : part.after.faults ≤ files.after.faults
   pub told : IsTrue files.after.tells → IsTrue part.after.tells
   pub same_file : IsTrue files.after.tells → part.before.file ≡ files.before.file
 
--- a file that wasn't read ends the steps
+-- A file that wasn't read ends the steps.
 pub unread_ends : (seen : Sight) (command : Command) (role : Role) (part : Span FilesSeen) (exit_reason : ExitReason)
     → IsReached seen command role → IsWithin seen.files part
     → IsUnread part (name_of command role) role exit_reason → EndsOpening seen command exit_reason
@@ -54,7 +54,7 @@ unread_ends seen command role part exits.StoreFault reached within h = absurd h
 unread_ends seen command role part exits.DoorFault reached within h = absurd h
 unread_ends seen command role part (exits.OtherStore stored wanted) reached within h = absurd h
 
--- what was read between two moments of a run was read in the run
+-- What was read between two moments of a run was read in the run.
 pub read_within : (files part : Span FilesSeen) → IsWithin files part → (name : List ℕ) (role : Role) (bytes : List ℕ) → IsReadAs part name role bytes → IsReadAs files name role bytes
 read_within files part within name role bytes read = record {
   short = read.short;
@@ -69,7 +69,7 @@ pub bad_line_within : (files part : Span FilesSeen) → IsWithin files part → 
 bad_line_within files part within None line h = absurd h
 bad_line_within files part within (Some name) line h = (h.0, read_within files part within name roles.Sessions h.0 h.1, h.2)
 
--- sessions that weren't had end the steps
+-- Sessions that couldn't be read end the steps.
 pub sessionless_named : (seen : Sight) (command : Command) (part : Span FilesSeen) (exit_reason : ExitReason) (name : Option (List ℕ)) → file_of command roles.Sessions ≡ name
     → (app : Application) × HasApplication seen command app → IsWithin seen.files part
     → IsSessionless part name exit_reason → EndsOpening seen command exit_reason
@@ -88,7 +88,7 @@ pub sessionless_ends : (seen : Sight) (command : Command) (part : Span FilesSeen
     → IsSessionless part (file_of command roles.Sessions) exit_reason → EndsOpening seen command exit_reason
 sessionless_ends seen command part exit_reason reached within h = sessionless_named seen command part exit_reason (file_of command roles.Sessions) refl reached within h
 
--- a refusal ends it with its line, unless memory ran out; a refusal for want of memory has no line
+-- A refusal ends the steps with its line, unless memory ran out. Running out of memory has no line.
 pub refused_ends : (bytes : List ℕ) (r : Refusal) (exit_reason : ExitReason)
     → (r ≡ refusals.Memory) ⊎ HasRefusal bytes r → (r ≡ refusals.Memory) ⊎ ((app : Application) → IsApplication bytes app → ⊥)
     → (¬ (r ≡ refusals.Memory) × (exit_reason ≡ exits.AppRefused (refusal_text r))) ⊎ (exit_reason ≡ exits.Memory) → IsUnopened bytes exit_reason
@@ -97,13 +97,13 @@ refused_ends bytes r exit_reason (inl memory) none (inl told) = absurd (told.0 m
 refused_ends bytes r exit_reason (inr has) (inl memory) (inl told) = absurd (told.0 memory)
 refused_ends bytes r exit_reason (inr has) (inr none) (inl told) = inl (refusal_text r, told.1, record { refusal = r; has = has; told = refl; none = none })
 
--- bytes that gave no application end the steps
+-- Bytes that give no application end the steps.
 pub unopened_ends : (seen : Sight) (command : Command) (bytes : List ℕ) (exit_reason : ExitReason)
     → IsRead seen command roles.App bytes → IsUnopened bytes exit_reason → EndsOpening seen command exit_reason
 unopened_ends seen command bytes exit_reason read (inl refused) = subst (λ (e : ExitReason). EndsOpening seen command e) (sym refused.1) (bytes, read, refused.2)
 unopened_ends seen command bytes exit_reason read (inr memory) = subst (λ (e : ExitReason). EndsOpening seen command e) (sym memory) tt
 
--- bytes that gave no application to bring a store to end the steps
+-- Bytes that give no application to upgrade a store to end the steps.
 pub next_unopened : (bytes : List ℕ) (exit_reason : ExitReason) → IsUnopened bytes exit_reason → IsNextUnopened bytes (of_next exit_reason)
 next_unopened bytes exit_reason (inl refused) = inl (refused.0, ap of_next refused.1, refused.2)
 next_unopened bytes exit_reason (inr memory) = inr (ap of_next memory)
@@ -114,23 +114,23 @@ next_unopened_ends seen command bytes exit_reason reached read (inl refused) =
     subst (λ (e : ExitReason). EndsOpening seen command e) (sym refused.1) (reached, (bytes, read, refused.2))
 next_unopened_ends seen command bytes exit_reason reached read (inr memory) = subst (λ (e : ExitReason). EndsOpening seen command e) (sym memory) tt
 
--- no write failed as it wasn't attached
+-- If the store wasn't attached, that isn't because a write failed.
 pub attach_writes_nothing : (db : Option (List ℕ)) (app : Application) (k : Span KeeperSeen) → AttachesAs db app k (Err exits.WriteFault) → ⊥
 attach_writes_nothing db app k h = h
 
--- an attached store is the one of the steps around it
+-- A store that was attached is that of the steps around it.
 pub is_attached : (db : Option (List ℕ)) (app : Application) (before opened after : KeeperSeen)
     → AttachesAs db app (span before opened) (Ok tt) → after.store ≡ opened.store → IsAttached db app (span before after) opened
 is_attached db app before opened after h stays = record { attaches = h.0; fit = h.1; stays = stays }
 
--- the audit was aimed, and then only put on
+-- The audit was aimed, and then only written to.
 pub aimed_once : (a b c : SinkSeen) (name : Option (List ℕ)) (done : Unit {0}) → Aims a b name (Ok done) → Lasts b c → IsAimed name (span a c)
 aimed_once a b c name done aims lasts = λ told. lasts.same_aims told ∙ aims.ok (lasts.told told)
 
 pub took_once : (a b c : SinkSeen) (name : Option (List ℕ)) (done : Unit {0}) (bytes : List ℕ) → Aims a b name (Ok done) → Lasts b c → Took (span b c) bytes → Took (span a c) bytes
 took_once a b c name done bytes aims lasts took = λ told. took told ∙ ap (λ (held : List ℕ). held ++ bytes) (aims.same_held (lasts.told told))
 
--- the steps after the aim
+-- The steps after the audit was aimed.
 module _ (out_before out_after audit_before audit_aimed audit_after : SinkSeen) (name : Option (List ℕ)) (done : Unit {0}) (aims : Aims audit_before audit_aimed name (Ok done)) where
   pub went_aimed : (P Q : List ℕ → List ℕ → Type 0) → (IsAimed name (span audit_before audit_after) → (o a : List ℕ) → P o a → Q o a)
       → Went (sinks out_before out_after audit_aimed audit_after) P → WentAimed (sinks out_before out_after audit_before audit_after) Q
@@ -149,7 +149,7 @@ module _ (out_before out_after audit_before audit_aimed audit_after : SinkSeen) 
       failed_later (sinks out_before out_after audit_before audit_after) (sinks out_before out_after audit_aimed audit_after)
       (omega arith) aims.later (omega arith) (omega arith) failed
 
--- the steps ended before the aim
+-- The steps ended before the audit was aimed.
 pub idle_ends : (out audit : SinkSeen) (P : List ℕ → List ℕ → Type 0) → P [] [] → WentAimed (sinks out out audit audit) P
 idle_ends out audit P h = record {
   out = [];
@@ -175,10 +175,10 @@ WentAimed-on s P Q f went = record {
   holds = f went.out went.audit went.holds;
 }
 
--- what follows of what was put
+-- A consequence of what was put.
 pub Closed-on : (out : Span SinkSeen) (P Q : List ℕ → Type 0) → ((put : List ℕ) → P put → Q put) → Closed out P → Closed out Q
 Closed-on out P Q f c = record { put = c.put; lasts = c.lasts; took = c.took; holds = f c.put c.holds }
 
--- nothing was put
+-- Nothing was put.
 pub Closed-none : (out : SinkSeen) (P : List ℕ → Type 0) → P [] → Closed (span out out) P
 Closed-none out P h = record { put = []; lasts = Lasts-none out; took = Took-none out; holds = h }

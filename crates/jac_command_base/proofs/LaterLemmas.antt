@@ -1,4 +1,4 @@
--- What a run sees, seen when more was put.
+-- What a run has seen still holds after more was put.
 use Rattle.std.proofs.Common.{ℕ, ◌≤◌, List, arith}
 use Rattle.jac_io.specs.Seen.{SinkSeen}
 use Rattle.jac_lang.specs.Syntax.{Application}

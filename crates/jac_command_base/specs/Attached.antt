@@ -11,28 +11,28 @@ use Rattle.jac_command_base.specs.declared.exit_reason.ExitReason.TheVariants as
 use Rattle.jac_app_load.specs.Application.{schema_text}
 use Rattle.jac_serve_events.specs.Outside.{Span}
 
--- a store of this name was attached for the application, of whose kinds its cells are, and no other
--- since
+-- A store with this name was attached for the application, and no other store since. Its cells have
+-- the kinds of the application.
 pub record IsAttached (db : Option (List ℕ)) (app : Application) (k : Span KeeperSeen)
     (opened : KeeperSeen) : Type 0 where
   pub attaches : Attaches k.before opened db (schema_text app) (Ok tt)
   pub fit : IsTrue opened.tells → IsFit (shapes_of app) opened.state
   pub stays : k.after.store ≡ opened.store
 
--- no store was attached: nothing was put, and what was stored is as it was
+-- No store was attached. Nothing was put, and what was stored is unchanged.
 pub record IsUnattached (k : Span KeeperSeen) (out_bytes audit_bytes : List ℕ) : Type 0 where
   pub no_out : out_bytes ≡ []
   pub no_audit : audit_bytes ≡ []
   pub unattached : k.after.store.attached ≡ k.before.store.attached
   pub refused : IsTrue k.after.tells → IsRefused k.before k.after
 
--- what is stored has a schema other than this one
+-- The stored schema isn't the wanted one.
 pub record IsOther (k : Span KeeperSeen) (stored wanted : List ℕ) : Type 0 where
   pub differs : ¬ (stored ≡ wanted)
   pub known : k.after.store.schema ≡ Some stored
   pub told : IsTrue k.after.tells → k.before.store.schema ≡ Some stored
 
--- how attaching a store for the application ends
+-- How attaching a store for the application ends.
 abbrev pub AttachesAs : Option (List ℕ) → Application → Span KeeperSeen → Result (Unit {0})
     ExitReason
     → Type 0

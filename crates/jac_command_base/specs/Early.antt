@@ -10,7 +10,7 @@ use Rattle.jac_app_load.specs.Refusal.{IsRefusedBy}
 use Rattle.jac_cli.specs.Commands.{file_of}
 use Rattle.jac_command_base.specs.Files.{Sight, IsRead, IsLong, HasApplication, HasBadLine, IsReached, IsIdle}
 
--- how the steps before end: nothing was put
+-- How the first steps end early.
 abbrev pub EndsOpening : Sight → Command → ExitReason → Type 0
 EndsOpening seen command (exits.AppRefused line) = (bytes : List ℕ)
     × IsRead seen command roles.App bytes × IsRefusedBy bytes line
@@ -26,7 +26,7 @@ EndsOpening seen command (exits.TooLong role) = IsReached seen command role
 EndsOpening seen command exits.Memory = ⊤
 EndsOpening seen command exit_reason = ⊥
 
--- it ended before the audit was aimed
+-- The command ended before the audit was aimed.
 abbrev pub IsEndedEarly : Sight → Command → Result (Unit {0}) ExitReason → List ℕ → List ℕ → Type 0
 IsEndedEarly seen command (Ok done) out audit = ⊥
 IsEndedEarly seen command (Err exit_reason) out audit = EndsOpening seen command exit_reason

@@ -14,13 +14,13 @@ use Rattle.jac_command_base.specs.declared.status.Status.TheVariants as statuses
 use Rattle.jac_cli.specs.Commands.{name_of, limit_text}
 use Rattle.jac_serve_events.specs.Outside.{Span, Took, IsFront}
 
--- why serving that stopped ends the run
+-- The reason for which serving that stopped ends the run.
 abbrev pub exit_reason_of : ReplayError → ExitReason
 exit_reason_of (stops.Refused event_fault) = exits.LineRefused event_fault
 exit_reason_of stops.Write = exits.WriteFault
 exit_reason_of stops.Memory = exits.Memory
 
--- the line that tells why a line of the events is refused
+-- The line that says why a line of the events is refused.
 abbrev pub event_fault_line : EventFault → List ℕ
 event_fault_line (event_faults.NoForm n) = codes "events: line " ++ decimal n ++ codes ": no form\n"
 event_fault_line (event_faults.NotOpen n c) = codes "events: line " ++ decimal n ++ codes
@@ -30,12 +30,12 @@ event_fault_line (event_faults.AlreadyOpen n c) = codes "events: line " ++ decim
     ": connection "
     ++ decimal c ++ codes " is open\n"
 
--- what stands after the three letters of a role's name
+-- What follows the three letters of a role's name.
 abbrev pub behind_role : List ℕ → List ℕ
 behind_role line = drop 3 line
 
--- the line that tells why a command ended; that of the second application's refusal has `new` where
--- each refusal's has `app`
+-- The line that says why a command ended. For the second application's refusal, it has `new`
+-- instead of `app`.
 abbrev pub fault_line : Command → ExitReason → List ℕ
 fault_line command (exits.ReadFault role) = codes "read fault: " ++ name_of command role
     ++ codes "\n"
@@ -68,27 +68,27 @@ status_of exits.DoorFault = statuses.DoorFault
 status_of (exits.OtherStore stored wanted) = statuses.OtherStore
 status_of exits.Memory = statuses.Memory
 
--- the last line is put, or the front of it where that put fails
+-- The last line is put. If that fails, only a prefix of it is.
 abbrev pub Closes : Span SinkSeen → List ℕ → Status → List ℕ → Status → Type 0
 Closes out line status put answer =
     ((put ≡ line) × (answer ≡ status)) ⊎ (IsFront put line × (answer ≡ statuses.WriteFault)
     × Rose out.before.faults out.after.faults)
 
--- what follows the steps of a command
+-- What follows the steps of a command.
 abbrev pub Finishes : Span SinkSeen → Command → Result (Unit {0}) ExitReason → List ℕ → Status
     → Type 0
 Finishes out command (Ok done) put answer = (put ≡ []) × (answer ≡ statuses.Done)
 Finishes out command (Err exit_reason) put answer = Closes out (fault_line command exit_reason)
     (status_of exit_reason) put answer
 
--- a put on one sink, with what follows of it
+-- What was put on one sink, and that this holds for it.
 pub record Closed (out : Span SinkSeen) (Holds : List ℕ → Type 0) : Type 0 where
   pub put : List ℕ
   pub lasts : Lasts out.before out.after
   pub took : Took out put
   pub holds : Holds put
 
--- a text was put on a sink, or the front of it where a put failed
+-- A text was put on a sink. If that failed, only a prefix of it was.
 abbrev pub PutsText : Span SinkSeen → List ℕ → Result (Unit {0}) ExitReason → List ℕ → Type 0
 PutsText sink text (Ok done) put = put ≡ text
 PutsText sink text (Err exits.WriteFault) put = IsFront put text

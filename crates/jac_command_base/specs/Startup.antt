@@ -21,7 +21,7 @@ use Rattle.jac_command_base.specs.Attached.{AttachesAs}
 use Rattle.jac_command_base.specs.Early.{EndsOpening}
 use Rattle.jac_command_base.specs.Files.{Sight, HasSessions, IsReadAs, IsSpelledIn, IsUnread}
 
--- the command that begins
+-- The command that begins.
 abbrev pub command_in : StoreCommand → Command
 command_in (openings.Replay replay) = commands.Replay replay.now
 command_in (openings.Serve serving) = commands.Serve serving.now
@@ -38,24 +38,24 @@ sight_of files out audit keeper = record {
 
 -- ---- the files
 
--- the events' file of this name was read; without a name there are no events
+-- The events file with this name was read. Without a name, there are no events.
 abbrev pub HasEvents : Span FilesSeen → Option (List ℕ) → List ℕ → Type 0
 HasEvents files None events = events ≡ []
 HasEvents files (Some name) events = IsReadAs files name roles.Events events
 
--- why a file of this name, where there is one, gave no events
+-- Why a file with this name, if there is a name, gives no events.
 abbrev pub IsEventless : Span FilesSeen → Option (List ℕ) → ExitReason → Type 0
 IsEventless files None exit_reason = ⊥
 IsEventless files (Some name) exit_reason = IsUnread files name roles.Events exit_reason
 
--- the files that a command names were read: its application's, its sessions' and its events'
+-- The files that a command names were read: those of its application, its sessions and its events.
 pub record AreFilesRead (command : Command) (files : Span FilesSeen) (app : Application)
     (sessions : List Session) (events : List ℕ) : Type 0 where
   pub application : IsSpelledIn files (name_of command roles.App) app
   pub sessions_had : HasSessions files (file_of command roles.Sessions) sessions
   pub events_had : HasEvents files (file_of command roles.Events) events
 
--- why they weren't, or gave nothing, whatever else is seen
+-- Why the files weren't read, or gave nothing, whatever else is seen.
 abbrev pub EndsReading : Command → Span FilesSeen → ExitReason → Type 0
 EndsReading command files exit_reason =
     (out audit : Span SinkSeen) (keeper : Span KeeperSeen)
@@ -63,7 +63,7 @@ EndsReading command files exit_reason =
 
 -- ---- the audit and the store
 
--- how aiming the audit at the file of this name, or at none, ends
+-- How aiming the audit at the file with this name, or at none, ends.
 abbrev pub EndsAim : Option (List ℕ) → Span SinkSeen → Result (Unit {0}) ExitReason → Type 0
 EndsAim name audit (Ok done) = Aims audit.before audit.after name (Ok tt)
 EndsAim name audit (Err exit_reason) =
@@ -71,26 +71,26 @@ EndsAim name audit (Err exit_reason) =
     × Aims audit.before audit.after name (Err failed))
     ⊎ ((exit_reason ≡ exits.Memory) × IsStill audit)
 
--- a command that serves aims its audit, and another one leaves it alone
+-- A command that serves aims its audit. Another one leaves the audit alone.
 abbrev pub EndsAiming : Command → Span SinkSeen → Result (Unit {0}) ExitReason → Type 0
 EndsAiming (commands.Replay replay) audit result = EndsAim replay.audit audit result
 EndsAiming (commands.Serve serving) audit result = EndsAim serving.audit audit result
 EndsAiming command audit (Ok done) = IsStill audit
 EndsAiming command audit (Err exit_reason) = ⊥
 
--- the audit wasn't aimed, and the store wasn't called
+-- The audit couldn't be aimed, and the store wasn't called.
 pub record IsStoppedAiming (command : Command) (audit : Span SinkSeen) (keeper : Span KeeperSeen)
     (exit_reason : ExitReason) : Type 0 where
   pub aims : EndsAiming command audit (Err exit_reason)
   pub still : IsStill keeper
 
--- the store wasn't attached
+-- The audit was aimed, and the store wasn't attached.
 pub record IsBarred (command : Command) (app : Application) (audit : Span SinkSeen)
     (keeper : Span KeeperSeen) (exit_reason : ExitReason) : Type 0 where
   pub aims : EndsAiming command audit (Ok tt)
   pub attaches : AttachesAs (db_of command) app keeper (Err exit_reason)
 
--- it was
+-- The audit was aimed, and the store attached.
 pub record IsBegunOn (command : Command) (app : Application) (audit : Span SinkSeen)
     (keeper : Span KeeperSeen) : Type 0 where
   pub aims : EndsAiming command audit (Ok tt)
@@ -104,14 +104,15 @@ BeginsAs command app audit keeper (Err exit_reason) =
 
 -- ---- both
 
--- it ended before the audit was aimed: a file wasn't read, or gave nothing, or memory ran out
+-- The command ended before the audit was aimed: a file wasn't read or gave nothing, or memory ran
+-- out.
 pub record IsHaltedEarly (command : Command) (files : Span FilesSeen) (audit : Span SinkSeen)
     (keeper : Span KeeperSeen) (exit_reason : ExitReason) : Type 0 where
   pub ends : EndsReading command files exit_reason
   pub uncalled : IsStill audit
   pub still : IsStill keeper
 
--- the files were read, and the audit's aim or the store failed
+-- The files were read, and then the aim of the audit or the store failed.
 pub record IsHaltedBehind (command : Command) (files : Span FilesSeen) (audit : Span SinkSeen)
     (keeper : Span KeeperSeen) (exit_reason : ExitReason) : Type 0 where
   pub app : Application
@@ -127,7 +128,7 @@ IsHalted command files audit keeper exit_reason =
     IsHaltedEarly command files audit keeper exit_reason
     ⊎ IsHaltedBehind command files audit keeper exit_reason
 
--- the files were read, the audit was aimed and the store attached
+-- The files were read, the audit was aimed, and the store was attached.
 pub record HasBegun (command : Command) (files : Span FilesSeen) (audit : Span SinkSeen)
     (keeper : Span KeeperSeen) (app : Application) (sessions : List Session) (events : List ℕ)
     : Type 0 where
@@ -135,7 +136,7 @@ pub record HasBegun (command : Command) (files : Span FilesSeen) (audit : Span S
   pub aims : EndsAiming command audit (Ok tt)
   pub attaches : AttachesAs (db_of command) app keeper (Ok tt)
 
--- how a command begins: with an application over its store, or it ends there
+-- How a command begins: with an application and its store, or with a reason to end.
 abbrev pub OpensAs : Command → Span FilesSeen → Span SinkSeen → Span KeeperSeen
     → Result Opened ExitReason → Type 0
 OpensAs command files audit keeper (Ok opened) =

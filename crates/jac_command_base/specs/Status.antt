@@ -1,4 +1,4 @@
--- The numbers of the statuses.
+-- The number of each exit status.
 use Rattle.std.specs.Prelude.{ℕ}
 use Rattle.jac_command_base.specs.declared.status.Status.{Status}
 use Rattle.jac_command_base.specs.declared.status.Status.TheVariants.{Done, Usage, AppRefused, LineRefused, ReadFault, WriteFault, StoreFault, Memory, DoorFault, OtherStore, TooLong, UpgradeRefused}

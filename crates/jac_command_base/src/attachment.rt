@@ -13,7 +13,7 @@ use jac_keep::{AttachFault, Vault};
 use jac_value::Txt;
 use std::alloc::Global;
 
-/// Attaches the store of this name for the application, whose schema this is.
+/// Attaches the store with this name for the application, which has this schema.
 pub fn attach<K: Vault>(
     alloc: Global,
     service: &Service,

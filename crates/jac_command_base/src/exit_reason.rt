@@ -16,26 +16,26 @@ use jac_value::Txt;
 pub enum ExitReason {
     ReadFault(Role),
     TooLong(Role),
-    /// The line says why.
+    /// The line says why the application is refused.
     AppRefused(Txt),
-    /// The line says why the application is refused that a store was to be brought to.
+    /// The line says why the application to upgrade to is refused.
     NewRefused(Txt),
     /// The line says what the second application lacks.
     UpgradeRefused(Txt),
     LineRefused(EventFault),
-    /// The line of the sessions of this number, from 1.
+    /// The number, from 1, of the line of the sessions.
     SessionsRefused(u64),
     WriteFault,
-    /// The store failed as it was attached or read.
+    /// The store failed when it was attached or read.
     StoreFault,
     /// The door failed.
     DoorFault,
-    /// Another schema is stored than the application's.
+    /// The stored schema isn't that of the application.
     OtherStore { stored: Txt, wanted: Txt },
     Memory,
 }
 
-/// How many bytes the file may hold.
+/// The number of bytes that the file may have.
 pub fn limit(role: Role) -> usize
     ensures { result ≡ limit_of role }
 {
@@ -45,7 +45,7 @@ pub fn limit(role: Role) -> usize
     }
 }
 
-// The file of the command that has this role.
+// The file of the command with this role.
 fn file(command: &Command, role: Role) -> Option<&Txt>
     ensures { option_copied result ≡ file_of command.now role }
 {
@@ -123,7 +123,7 @@ fn limit_bytes(role: Role) -> &'static [u8]
     }
 }
 
-/// Writes the line that says why a command ended; it takes no memory.
+/// Writes the line that says why a command ended. It needs no memory.
 pub fn put_fault<O: Sink>(
     out: &mut O,
     command: &Command,
@@ -166,7 +166,7 @@ pub fn put_fault<O: Sink>(
     }
 }
 
-// What stands after the three letters of a role's name.
+// What follows the three letters of a role's name.
 fn behind_role(line: &[u8]) -> &[u8]
     ensures { result.now ≡ behind_role line.now }
 {
@@ -219,7 +219,7 @@ fn put_conn_fault<O: Sink>(out: &mut O, line: u64, conn: u32, fault: &[u8]) -> R
     )
 }
 
-/// The status of a run that ended so.
+/// The status of a run that ended for this reason.
 pub fn status_of(exit_reason: &ExitReason) -> Status
     ensures { result ≡ status_of exit_reason.now }
 {

@@ -54,7 +54,7 @@ pub fn open_app(alloc: Global, bytes: &[u8]) -> Result<Service, ExitReason>
     }
 }
 
-/// The application of the file of this name.
+/// Reads the application from the file with this name.
 pub fn read_app<F: Files>(alloc: Global, files: &mut F, name: &Txt) -> Result<Service, ExitReason>
     ensures asked { (F.seen files.new).asked ≡ (F.seen files.old).asked ++ name.now ∷ [] }
     ensures lasts { FilesLast (F.seen files.old) (F.seen files.new) }
@@ -74,7 +74,7 @@ pub fn read_app<F: Files>(alloc: Global, files: &mut F, name: &Txt) -> Result<Se
     Ok(service)
 }
 
-/// The same of the application that a store is to be brought to.
+/// Reads the application to upgrade to from these bytes.
 pub fn open_next(alloc: Global, bytes: &[u8]) -> Result<Service, ExitReason>
     requires { length bytes.now ≤ limit_of Role.New }
     ensures opened { IfOk result (λ service. IsApplication bytes.now (application_of service)) }
@@ -107,7 +107,7 @@ fn refused(alloc: Global, refusal: &Refusal) -> ExitReason
     }
 }
 
-// The sessions of the file of this name; without a name there are none.
+// Reads the sessions from the file with this name. Without a name, there are none.
 pub fn read_sessions<F: Files>(
     alloc: Global,
     files: &mut F,

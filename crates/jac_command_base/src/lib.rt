@@ -1,4 +1,4 @@
-//! How a command ends, the files that it reads before, and the store that it attaches.
+//! What all commands share: reading files, attaching a store, and how a command ends.
 #![tactic(auto)]
 
 mod attachment;

@@ -3,7 +3,7 @@ ghost use Rattle.std.specs.Option.{option_copied};
 
 use jac_value::Txt;
 
-/// The name, if there is one.
+/// The name, if there is one, by reference.
 pub fn named(name: &Option<Txt>) -> Option<&Txt>
     ensures { option_copied result ≡ name.now }
 {

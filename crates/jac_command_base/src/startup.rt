@@ -23,7 +23,7 @@ use jac_route::Sessions;
 use jac_value::{Bytes, Memory, Txt, copy_name};
 use std::alloc::Global;
 
-/// A command that begins so.
+/// A command that begins this way.
 #[derive(Clone, Copy)]
 pub enum StoreCommand<'c> {
     Replay(&'c Replay),
@@ -32,8 +32,8 @@ pub enum StoreCommand<'c> {
     Why(&'c WhyArgs),
 }
 
-/// An application that was opened, over a store that is attached. Where the command names no file
-/// of sessions, or of events, there are none.
+/// An application whose store is attached. If the command names no file of sessions, or of events,
+/// there are none.
 #[derive(Drop)]
 pub struct Opened {
     pub service: Service,
@@ -75,7 +75,7 @@ fn events_file<'c>(opening: StoreCommand<'c>) -> Option<&'c Txt>
     }
 }
 
-// The name of the store.
+// The name of the store, if there is one.
 fn db_name<'c>(opening: StoreCommand<'c>) -> Option<&'c Txt>
     ensures { option_copied result ≡ db_of (command_in opening.entry) }
 {
@@ -87,7 +87,7 @@ fn db_name<'c>(opening: StoreCommand<'c>) -> Option<&'c Txt>
     }
 }
 
-// The events of the file of this name; without a name there are none.
+// Reads the events from the file with this name. Without a name, there are none.
 fn read_events<F: Files>(
     alloc: Global,
     files: &mut F,
@@ -111,7 +111,7 @@ fn read_events<F: Files>(
     }
 }
 
-// Reads the files that the command names, and what they spell.
+// Reads the files that the command names.
 fn open_files<F: Files>(
     alloc: Global,
     opening: StoreCommand<'_>,
@@ -144,7 +144,7 @@ fn open_files<F: Files>(
     })
 }
 
-// Aims the audit at the file of this name, or at none.
+// Aims the audit at the file with this name, or at none.
 fn aim_at<U: AuditSink>(alloc: Global, name: Option<&Txt>, audit: &mut U) -> Result<(), ExitReason>
     ensures { EndsAim (option_copied name.entry) (span (U.seen audit.old) (U.seen audit.new))
         result }
@@ -159,7 +159,7 @@ fn aim_at<U: AuditSink>(alloc: Global, name: Option<&Txt>, audit: &mut U) -> Res
     }
 }
 
-// Aims the audit, where the command serves.
+// Aims the audit, if the command serves.
 fn aim_audit<U: AuditSink>(
     alloc: Global,
     opening: StoreCommand<'_>,
@@ -198,9 +198,8 @@ fn begin<U: AuditSink, K: Vault>(
     }
 }
 
-/// The first steps of a command that answers over a store: the application, the sessions and the
-/// events that it names, the aim of its audit, if it serves, and the store, which is attached for
-/// the application.
+/// The first steps of a command that works on a store. They read the application, the sessions and
+/// the events that it names, aim its audit if it serves, and attach the store for the application.
 pub fn open_store<F: Files, U: AuditSink, K: Vault>(
     alloc: Global,
     opening: StoreCommand<'_>,

@@ -1,28 +1,28 @@
 ghost use Rattle.std.specs.Prelude.{◌≡◌};
 ghost use Rattle.jac_command_base.specs.Status.{status_number};
 
-/// How a run ended.
+/// The result of a run.
 #[derive(Clone, Copy, PartialEq, Eq)]
 pub enum Status {
     /// The command did its work, and its input was read to the end.
     Done,
     /// The words give no command.
     Usage,
-    /// The application's bytes spell no application.
+    /// The application's file spells no application.
     AppRefused,
-    /// A line of the sessions or events has no form, or names a connection in the wrong state; the
+    /// A line of the sessions or events has no form, or names a connection in the wrong state. The
     /// events before it were served.
     LineRefused,
-    /// A file wasn't read.
+    /// A file couldn't be read.
     ReadFault,
-    /// A put failed.
+    /// A write failed.
     WriteFault,
-    /// The store failed as it was attached or read.
+    /// The store failed when it was attached or read.
     StoreFault,
     Memory,
     /// The door failed: it listens at no port, gave no link, or took none back.
     DoorFault,
-    /// The store has another schema than the application's.
+    /// The stored schema isn't that of the application.
     OtherStore,
     /// A file holds more bytes than its limit.
     TooLong,
