@@ -1,4 +1,4 @@
--- A step over a dispatcher, as one of the dispatcher that it was.
+-- A step of a dispatcher after a call, as a step of the dispatcher before it.
 use Rattle.std.proofs.Common.{◌≡◌, subst, ℕ, Option, Result, List}
 use Rattle.jac_hub.specs.Hub.{HubSeen}
 use Rattle.jac_io.specs.Linked.{LinkSeen, DoorSeen}
@@ -26,7 +26,7 @@ module _ {O : Type 0} (answer_spec : O → AnswerSpec) (a b : DispatcherSeen O) 
   next_link-of seen tally door k result audit h =
       keeps-of answer_spec a b (λ (app : AnswerSpec). ServesNext seen app tally door k result audit) keeps h
 
--- a link that was served from a dispatcher on which nothing was asked yet
+-- A link that was served by a dispatcher that hadn't been asked anything.
 pub link-of : {O : Type 0} (answer_spec : O → AnswerSpec) (a b : DispatcherSeen O) → KeepsDispatcher answer_spec a b → b.run_seen ≡ a.run_seen
     → (c first : ℕ) (link : Span LinkSeen) (after : RunSeen) (result : Result ℕ Halt) (out audit : List ℕ)
     → IsLinkServed (answer_spec b.of) c first link (span b.run_seen after) result out audit → IsLinkServed (answer_spec a.of) c first link (span a.run_seen after) result out audit

@@ -1,4 +1,4 @@
--- Serving link after link of a door.
+-- Serving one link of a door after another.
 use Rattle.std.proofs.Common.{◌≡◌, ◌∙◌, ap, sym, subst, refl, inl, inr, ℕ, ◌+◌, ◌≤◌, ◌⊎◌, Bool, true, false, IsTrue, IsOk, Some, None, Result, Ok, Err, List, [], ◌∷◌, ◌++◌, length, map, if◌then◌else◌, append_assoc, append-nil, length-append, arith}
 use Rattle.jac_io.specs.Faults.{Rose}
 use Rattle.jac_io.specs.declared.sink.Failed.{Failed}
@@ -19,7 +19,7 @@ use Rattle.jac_serve_events.proofs.EntriesLemmas.{entries-still, audited-append}
 use Rattle.jac_serve_events.proofs.OutsideLemmas.{append-IsFront, Rose-widen}
 use Rattle.jac_connections.proofs.LostReplies.{lost_lines, torn_lines}
 
--- a put on the audit failed within a link
+-- A put on the audit failed while a link was served.
 abbrev is_torn : Result ℕ Halt → Bool
 is_torn (Ok count) = false
 is_torn (Err ways.Write) = true
@@ -48,7 +48,7 @@ module _ {L : Type 0} (seen : L → LinkSeen) (app : AnswerSpec) where
       subst (λ (log : List LogEntry). IsPart (is_torn visit.result) lines (audited_from (first + 1) log)) v.entries
       (lines_put first (span (seen visit.came) (seen visit.gone)) v.served.log visit.result v.out lines v.served.puts)
 
-  -- a link that was served, and handed back or not
+  -- A link that was served, and was handed back or not.
   visits_by : (tally : Tally) (line gone : L) (handed : Bool) (da db : DoorSeen L) (a b : RunSeen) (result : Result ℕ Halt) (out lines : List ℕ)
       → Took (span (as_sink (seen line)) (as_sink (seen gone))) out
       → IsLinkServed app (tally.connections + 1) tally.replies (span (seen line) (seen gone)) (span a b) result out lines
@@ -97,7 +97,7 @@ module _ {L : Type 0} (seen : L → LinkSeen) (app : AnswerSpec) where
   line_wanting tally line gone door a b out lines took served =
       visits_by tally line gone false door door a b (Err ways.Memory) out lines took served (λ told. sym (append-nil door.returned))
 
-  -- a count is at most so much
+  -- The limit of a count.
   pub line_few : (c first : ℕ) (link : Span LinkSeen) (k : Span RunSeen) (count : ℕ) (out lines : List ℕ) → IsLinkServed app c first link k (Ok count) out lines → count ≤ 16777217
   line_few c first link k count out lines served = let few = served.few in let is = served.count in omega (arith, few, is)
 
@@ -151,7 +151,7 @@ module _ {L : Type 0} (seen : L → LinkSeen) (app : AnswerSpec) where
     next.rose,
   )
 
-  -- one more
+  -- One more visit.
   visited_push : (visits : List (LinkVisit L)) (c first : ℕ) (before mid after : RunSeen) (log mine : List LogEntry) (audit lines : List ℕ) (visit : LinkVisit L)
       → AreVisited seen app c first before visits log audit mid → IsVisited seen app (c + length visits) (first + length log) (span mid after) visit mine lines
       → AreVisited seen app c first before (visits ++ visit ∷ []) (log ++ mine) (audit ++ lines) after
@@ -191,7 +191,7 @@ module _ {L : Type 0} (seen : L → LinkSeen) (app : AnswerSpec) where
   map_push f [] visit = refl
   map_push f (v ∷ visits) visit = ap (λ (l : List L). f v ∷ l) (map_push f visits visit)
 
-  -- these links were served and handed back
+  -- These links were served and handed back.
   pub record DoorProgress (door : Span (DoorSeen L)) (k : Span RunSeen) (tally : Tally) (audit : List ℕ) : Type 0 where
     pub visits : List (LinkVisit L)
     pub log : List LogEntry
@@ -244,7 +244,7 @@ module _ {L : Type 0} (seen : L → LinkSeen) (app : AnswerSpec) where
     lines_as visit mine v =
         subst (λ (n : ℕ). IsPart (is_torn visit.result) au (audited_from (n + 1) mine)) s.replies (visit_lines (tally.connections + 1) tally.replies (span b d) visit mine au v)
 
-    -- the next link was served and handed back
+    -- The next link was served and handed back.
     pub door_on : (line : L) (more : Tally) → GaveLine (span db dc) line → VisitsLine seen app tally line (span db dc) (span b d) (Ok more) au
         → DoorProgress (span da dc) (span a d) more (o ++ au)
     door_on line more gave (count, v, connections, replies) =
@@ -269,7 +269,7 @@ module _ {L : Type 0} (seen : L → LinkSeen) (app : AnswerSpec) where
     returned_same : (gone : L) → (IsTrue dc.tells → dc.returned ≡ db.returned ++ []) → IsTrue dc.tells → dc.returned ≡ da.returned ++ map (λ (x : LinkVisit L). x.gone) s.visits
     returned_same gone same told = same told ∙ append-nil db.returned ∙ s.returned (back told)
 
-    -- the next link was served whole, and wasn't handed back
+    -- The next link was served whole, but wasn't handed back.
     pub door_kept : (most : ℕ) (line : L) (count : ℕ) → GaveLine (span db dc) line → Rose da.faults dc.faults → Visits seen app tally line false (span db dc) (span b d) (Ok count) au
         → AreLinksServed seen app most (span da dc) (span a d) (Err halts.Door) (o ++ au)
     door_kept most line count gave rose v =
@@ -293,7 +293,7 @@ module _ {L : Type 0} (seen : L → LinkSeen) (app : AnswerSpec) where
         subst (λ (t : List ℕ). IsFront (t ++ au) (audit_lines (s.log ++ mine))) (sym s.audit_text)
         (subst (λ (t : List ℕ). IsFront (audit_lines s.log ++ au) t) (audited_push s.log mine) (append-IsFront (audit_lines s.log) au (audited_from (length s.log + 1) mine) front))
 
-    -- a put on the audit failed in it
+    -- A put on the audit failed while the next link was served.
     pub door_cut : (most : ℕ) (line : L) → GaveLine (span db dc) line → Visits seen app tally line false (span db dc) (span b d) (Err ways.Write) au
         → AreLinksServed seen app most (span da dc) (span a d) (Err halts.Write) (o ++ au)
     door_cut most line gave v =
@@ -311,7 +311,7 @@ module _ {L : Type 0} (seen : L → LinkSeen) (app : AnswerSpec) where
           ended = (visit, refl, refl);
         }
 
-    -- or memory ran out
+    -- Memory ran out while the next link was served.
     pub door_wanting : (most : ℕ) (line : L) → GaveLine (span db dc) line → Visits seen app tally line false (span db dc) (span b d) (Err ways.Memory) au
         → AreLinksServed seen app most (span da dc) (span a d) (Err halts.Memory) (o ++ au)
     door_wanting most line gave v =
@@ -330,7 +330,7 @@ module _ {L : Type 0} (seen : L → LinkSeen) (app : AnswerSpec) where
           ended = (visit, refl, refl);
         }
 
-    -- no link was served
+    -- No link was served.
     door_quiet : IsUnvisited (span db dc) (span b d) au → DoorProgress (span da dc) (span a d) tally (o ++ au)
     door_quiet q =
         let text : o ++ au ≡ o = ap (λ (t : List ℕ). o ++ t) q.no_audit ∙ append-nil o in
@@ -349,7 +349,7 @@ module _ {L : Type 0} (seen : L → LinkSeen) (app : AnswerSpec) where
           audit_text = text ∙ s.audit_text;
         }
 
-  -- no more were served
+  -- No more links were served.
   pub door_end : (most : ℕ) (da db : DoorSeen L) (a b : RunSeen) (tally : Tally) (o : List ℕ) → DoorProgress (span da db) (span a b) tally o → tally.connections ≤ most
       → (tally.connections ≡ most) ⊎ (IsTrue db.tells → db.coming ≡ [])
       → AreLinksServed seen app most (span da db) (span a b) (Ok tally) o
@@ -370,7 +370,7 @@ module _ {L : Type 0} (seen : L → LinkSeen) (app : AnswerSpec) where
       by (inl is) = inl (sym s.connections ∙ is)
       by (inr none) = inr none
 
-  -- the door gave no link
+  -- The door gave no link.
   pub door_failed : (most : ℕ) (da db : DoorSeen L) (a b : RunSeen) (tally : Tally) (o : List ℕ) → DoorProgress (span da db) (span a b) tally o → Rose da.faults db.faults
       → AreLinksServed seen app most (span da db) (span a b) (Err halts.Door) o
   door_failed most da db a b tally o s rose = record {
@@ -386,7 +386,7 @@ module _ {L : Type 0} (seen : L → LinkSeen) (app : AnswerSpec) where
     ended = (tt, rose);
   }
 
-  -- how serving goes on and ends, by what the next link brought
+  -- How serving goes on or ends after the next link.
   module _ (lawful : IsAnswerSpec app) (da db dc : DoorSeen L) (a b d : RunSeen) (tally : Tally) (o au : List ℕ) (back : IsTrue dc.tells → IsTrue db.tells) (s : DoorProgress (span da db) (span a b) tally o) where
     pub next_on : (more : Tally) → ServesNext seen app tally (span db dc) (span b d) (Ok (Some more)) au → DoorProgress (span da dc) (span a d) more (o ++ au)
     next_on more h = door_on lawful da db dc a b d tally o au back s h.0 more h.1 h.2

@@ -1,4 +1,4 @@
--- Nothing is taken or answered behind the closing of a link.
+-- After the closing of a link, nothing is taken or answered.
 use Rattle.std.proofs.Common.{◌≡◌, ◌∙◌, sym, subst, refl, ℕ, ◌+◌, ◌<◌, ◌||◌, nat_le, true, false, List, [], ◌∷◌, ◌++◌, length, length-append, arith}
 use Rattle.std.proofs.lemmas.Bool.{both_ways, or_parts, or_right}
 use Rattle.std.proofs.lemmas.Bool.Decides.{nat_tests}
@@ -19,7 +19,7 @@ pieces_long : (c : ℕ) (xs : List (List ℕ)) → length (pieces_of c xs) ≡ l
 pieces_long c [] = refl
 pieces_long c (x ∷ xs) = let rest = pieces_long c xs in omega (arith, rest)
 
--- the number of the event of the next piece
+-- The number of the event of the next piece.
 place_next : (c : ℕ) (xs : List (List ℕ)) (bytes : List ℕ) → 0 + length (Begin c ∷ pieces_of c xs) ≡ length (xs ++ bytes ∷ [])
 place_next c xs bytes =
     let long = pieces_long c xs in
@@ -32,7 +32,7 @@ takes_next before (x ∷ xs) bytes (less, first, takes) fewer one =
     let long = length-append x (concat xs) in
     (less, first, takes_next (before + length x) xs bytes takes (omega (arith, long, fewer)) one)
 
--- fewer bytes were brought than count
+-- If not all bytes that count were brought, there are fewer than the limit.
 fewer_open : (bytes : List ℕ) → nat_le LIMIT (length bytes) ≡ false → 0 + length bytes < LIMIT
 fewer_open bytes less = let fewer : length bytes < LIMIT = grind (arith, nat_tests, less) in omega (arith, fewer)
 
@@ -43,7 +43,7 @@ module _ (app : AnswerSpec) where
   begun_whole n c one [] brought = tt
   begun_whole n c one (entry ∷ mine) (next, more) = (next, begun_whole n c (with_entry (hearing app) entry one) mine more)
 
-  -- what the reply says of the connection is so
+  -- What the reply says about the connection is true.
   closing_is : (subject : LogSubject) (answer : Answer) → closes_behind subject answer ≡ (closes_connection subject || is_failure answer)
   closing_is (whole ask closes) answer = refl
   closing_is (refused status) answer = refl
@@ -64,7 +64,7 @@ module _ (app : AnswerSpec) where
     begun_last n c (with_entry (hearing app) entry one) mine more,
   )
 
-  -- entries of which none closes, and others behind them
+  -- Entries that don't close the connection, followed by others.
   none_closes : (n : ℕ) (log mine : List LogEntry) → closes_in app log ≡ false → ClosesLast n mine → ClosesLast n (log ++ mine)
   none_closes n [] mine none last = last
   none_closes n (entry ∷ log) mine none last =
@@ -73,7 +73,7 @@ module _ (app : AnswerSpec) where
         none_closes n log mine parts.1 last,
       )
 
-  -- one more piece of an open connection, and what it brought
+  -- The next piece of an open connection, and the entries that it brought.
   pub stops_next : (c : ℕ) (pieces : List (List ℕ)) (log : List LogEntry) (one : Connection Ask) (bytes : List ℕ) (mine : List LogEntry)
       → StopsAtClosing pieces log → one.bytes ≡ concat pieces → one.ended ≡ closes_in app log → is_closed one ≡ false → IsTake bytes
       → AreBegun (hearing app) (0 + length (Begin c ∷ pieces_of c pieces)) c (with_bytes bytes one) mine → StopsAtClosing (pieces ++ bytes ∷ []) (log ++ mine)

@@ -17,7 +17,7 @@ use Rattle.jac_serve_events.specs.Outside.{Span, span}
 use Rattle.jac_connections.proofs.LinkProgress.{LinkProgress, taken_by, place, link_on, link_nearer, link_quiet, link_whole, link_missed, link_wanting, link_cut, link_torn, limit_is}
 use Rattle.jac_serve_events.proofs.OutsideLemmas.{Rose-widen}
 
--- the replies by then are at most so many
+-- The limit of the replies so far.
 pub link_few : (app : AnswerSpec) (c first : ℕ) (hub : HubSeen) (link : Span LinkSeen) (k : Span RunSeen) (count : ℕ) (closed : Bool) (o au : List ℕ)
     → LinkProgress app c first hub link k count closed o au → (first ≤ count) × (count ≤ first + 16777217)
 link_few app c first hub link k count closed o au s =
@@ -31,7 +31,7 @@ sub_back : (first count : ℕ) → first ≤ count → count - first + first ≡
 sub_back first count less = omega (arith, less)
 
 module _ (app : AnswerSpec) (lawful : IsAnswerSpec app) (law : IsReading IsTaken) (c first : ℕ) (hub new : HubSeen) (la lb lc : LinkSeen) (a b d : RunSeen) where
-  -- the connection is open still
+  -- The connection is still open.
   pub pieces_open : (count more : ℕ) (o au p bu : List ℕ) → (IsTrue lc.tells → IsTrue lb.tells)
       → LinkProgress app c first hub (span la lb) (span a b) count false o au
       → ServesPiece app c hub new (span lb lc) (span b d) count (Ok (standings.Open more)) p bu
@@ -48,7 +48,7 @@ module _ (app : AnswerSpec) (lawful : IsAnswerSpec app) (law : IsReading IsTaken
       link_nearer app lawful law c first hub new la lb lc a b d count more o au p bu back s
       (serves (place app lawful law c first hub la lb lc a b d count o au p bu back s) s.known s.like)
 
-  -- the count doesn't fall
+  -- The count doesn't fall.
   pub pieces_last : (count last : ℕ) (o au p bu : List ℕ) → (IsTrue lc.tells → IsTrue lb.tells)
       → (s : LinkProgress app c first hub (span la lb) (span a b) count false o au)
       → ServesPiece app c hub new (span lb lc) (span b d) count (Ok (standings.Over last)) p bu → first ≤ last
@@ -78,7 +78,7 @@ module _ (app : AnswerSpec) (lawful : IsAnswerSpec app) (law : IsReading IsTaken
       link_missed app c first hub la lc a d count false (o ++ p) (au ++ bu)
       (link_quiet app c first hub la lb lc a b d count false o au p bu back s h.quiet) (last - first) (omega (arith, same, few.0)) (Rose-widen la.faults lb.faults lc.faults lc.faults later (omega arith) rose)
 
-  -- the connection is over
+  -- The connection is over.
   pub pieces_over : (count last : ℕ) (o au p bu : List ℕ) → (IsTrue lc.tells → IsTrue lb.tells) → la.faults ≤ lb.faults
       → (s : LinkProgress app c first hub (span la lb) (span a b) count false o au)
       → ServesPiece app c hub new (span lb lc) (span b d) count (Ok (standings.Over last)) p bu
@@ -100,7 +100,7 @@ module _ (app : AnswerSpec) (lawful : IsAnswerSpec app) (law : IsReading IsTaken
           let more = torn.count_is in
           link_torn app lawful law c first hub la lb lc a b d count o au p bu back s mine piece last (last - first) (omega (arith, few.0, more)) torn later
 
-  -- a put on the audit failed, or memory ran out
+  -- A put on the audit failed, or memory ran out.
   pub pieces_halt : (count : ℕ) (o au p bu : List ℕ) → (IsTrue lc.tells → IsTrue lb.tells)
       → LinkProgress app c first hub (span la lb) (span a b) count false o au → (halt : Halt)
       → ServesPiece app c hub new (span lb lc) (span b d) count (Err halt) p bu

@@ -1,4 +1,4 @@
--- A piece of a link's connection, as a hub takes it and as its replies are put.
+-- A hub takes a piece of a link's connection, and its replies are put.
 use Rattle.std.proofs.Common.{◌≡◌, ◌∙◌, ◌≤◌, ap, sym, subst, refl, inl, inr, ℕ, ◌⊎◌, Bool, true, false, IsTrue, IsSome, Option, Some, None, Result, Ok, Err, List, [], ◌++◌, if◌then◌else◌, arith}
 use Rattle.jac_io.specs.Linked.{LinkSeen}
 use Rattle.jac_io.specs.Seen.{SinkSeen}
@@ -45,7 +45,7 @@ piece_fault old new c bytes fault (Some channel) some (inr (inr e)) = err_same f
 no_error : (done : Unit {0}) (fault : HubFault) (X : Type 0) → ◌≡◌ {A = Result (Unit {0}) HubFault} (Ok done) (Err fault) → X
 no_error done fault X e = absurd cc
 
--- a piece of a connection that has begun is refused for want of memory alone
+-- A piece of a connection that has begun is refused only if memory runs out.
 pub only_memory : (old new : HubSeen) (event : Event) (fault : HubFault) → MayTake old event → Steps old event (Err fault) new → fault ≡ faults.Memory
 only_memory old new (Asking viewer method path query body) fault may steps = absurd may
 only_memory old new (Begin c) fault may steps = absurd may
@@ -58,7 +58,7 @@ not_lost hub (Begin c) taken may lost = may
 not_lost hub (Piece c bytes) taken may lost = lost
 not_lost hub (Finish c) taken may lost = may
 
--- what a hub gave for a piece was put, or why it wasn't
+-- What a hub gave for a piece was put, or why it wasn't.
 pub answers_on : (app : AnswerSpec) (lawful : IsAnswerSpec app) → IsReading IsTaken → (served : ℕ) (event : Event) (old stepped new : HubSeen) (a b : RunSeen) (s : Sinks) (out audit : List ℕ)
     → old.turn ≡ Idle → MayTake old event → TakesIn old event stepped → app.ready a
     → (result : Result EventOutcome WriteFailure) → PutsOuts spellings.Raw app stepped new (span a b) served result s out audit
@@ -74,7 +74,7 @@ gave_then : (la lb lc : LinkSeen) (bytes : List ℕ) → (IsTrue lc.tells → Is
     → Gave (span la lb) bytes → Gave (span la lc) bytes
 gave_then la lb lc bytes back same gave = λ told. gave (back told) ∙ ap (λ (l : List ℕ). bytes ++ l) (sym (same told))
 
--- a link gave a piece, and that was served
+-- A link gave a piece, and the piece was served.
 pub piece_stands : (app : AnswerSpec) (c served : ℕ) (old new : HubSeen) (la lb lc : LinkSeen) (a b : RunSeen) (s : Sinks) (bytes out audit : List ℕ) (brought : EventOutcome)
     → (IsTrue lc.tells → IsTrue lb.tells) → (IsTrue lc.tells → lc.left ≡ lb.left) → TakesPiece (span la lb) (Ok (Some bytes))
     → AnswersOn app old new (span a b) served (Piece c bytes) (Ok brought) s out audit
@@ -96,12 +96,12 @@ piece_stands app c served old new la lb lc a b s bytes out audit brought back sa
     by_closed true is = λ n known like. inr (inl (one true is n known like))
     by_closed false is = one false is
 
--- what was lost on a link was a reply
+-- On a link, only a reply can be lost.
 raw_torn : {P Q : Type 0} → P ⊎ ((spellings.Raw ≡ spellings.Quoted) × Q) → P
 raw_torn (inl h) = h
 raw_torn (inr h) = let same = h.0 in absurd cc
 
--- not all was put
+-- Not all was put.
 pub piece_cut : (app : AnswerSpec) (c served : ℕ) (lost : FailedSink) (count : ℕ) (old new : HubSeen) (la lb lc : LinkSeen) (ua ub : SinkSeen) (a b : RunSeen) (bytes out audit : List ℕ)
     → (IsTrue lc.tells → IsTrue lb.tells) → (IsTrue lc.tells → lc.left ≡ lb.left) → la.faults ≤ lb.faults → TakesPiece (span la lb) (Ok (Some bytes))
     → AnswersOn app old new (span a b) served (Piece c bytes) (Err (record { lost = lost; count = count })) (sinks (as_sink lb) (as_sink lc) ua ub) out audit
@@ -118,12 +118,12 @@ piece_cut app c served losses.Audit count old new la lb lc ua ub a b bytes out a
     let h = answers n known like in
     (h.mine, record { bytes = bytes; is_take = took.0; gave = gave_then la lb lc bytes back same took.1; begun = h.begun; entries = h.entries }, (raw_torn h.torn).0)
 
--- where the run ends by it, the audit failed
+-- If the loss ends the run, the audit failed.
 pub cut_cause : (lost : FailedSink) (count : ℕ) (s : Sinks) → cut_by lost count ≡ Err halts.Write → FaultedAt lost s → HasFaulted s.audit
 cut_cause losses.Out count s is fault = absurd cc
 cut_cause losses.Audit count s is fault = fault
 
--- the input has ended
+-- The input has ended.
 pub piece_last : (app : AnswerSpec) (c served : ℕ) (hub : HubSeen) (la lb : LinkSeen) (a : RunSeen)
     → TakesPiece (span la lb) (Ok None) → ServesPiece app c hub hub (span la lb) (span a a) served (Ok (standings.Over served)) [] []
 piece_last app c served hub la lb a took = λ n known like.
@@ -133,7 +133,7 @@ piece_last app c served hub la lb a took = λ n known like.
       cause = inl (λ told. (took told).1);
     })
 
--- the link failed
+-- The link failed.
 pub piece_missed : (app : AnswerSpec) (c served : ℕ) (hub : HubSeen) (la lb : LinkSeen) (a : RunSeen)
     → TakesPiece (span la lb) (Err misses.Link) → ServesPiece app c hub hub (span la lb) (span a a) served (Ok (standings.Over served)) [] []
 piece_missed app c served hub la lb a took = λ n known like.
@@ -155,7 +155,7 @@ by_begin {H} reads handles c stepped new done result before after (inl made) nex
     let h : Nexts reads handles step Done result new before after = subst (λ (s : HubSeen). Nexts reads handles s s.turn result new before after) made.1 next in
     (h.2, h.0)
 
--- a connection begins, and nothing comes of that
+-- A connection begins, and nothing comes of that.
 pub begins : {H : Type 0} (reads : List ℕ → Taken → Type 0) (handles : H → ℕ → Heard → Sent → H → Type 0) (c : ℕ) (old stepped new : HubSeen) (done : Unit {0}) (result : Option HubOut) (before after : H)
     → old ≡ new_hub → Steps old (Begin c) (Ok done) stepped → Nexts reads handles stepped stepped.turn result new before after → (new ≡ begun_hub c) × (after ≡ before)
 begins reads handles c old stepped new done result before after is steps next =

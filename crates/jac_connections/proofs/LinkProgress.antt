@@ -1,4 +1,4 @@
--- Serving piece after piece of a link.
+-- Serving one piece of a link after another.
 use Rattle.std.proofs.Common.{◌≡◌, ◌∙◌, ap, sym, subst, refl, inl, inr, ℕ, ◌+◌, ◌-◌, ◌≤◌, ◌<◌, ◌==◌, ◌||◌, ◌&&◌, ◌⊎◌, not, nat_le, Bool, true, false, IsTrue, IsSome, Option, Some, None, Ok, Err, List, [], ◌∷◌, ◌++◌, length, drop, append_assoc, append-nil, length-append, length-take, length-drop, if◌then◌else◌, arith}
 use Rattle.std.proofs.lemmas.Bool.Decides.{nat_tests}
 use Rattle.std.specs.List.{concat}
@@ -51,7 +51,8 @@ abbrev pub all_whole : List (SubjectOf Ask) → Bool
 all_whole [] = true
 all_whole (subject ∷ subjects) = is_whole subject && all_whole subjects
 
--- each subject of a connection but the last uses some of the bytes that count
+-- Each subject of a connection except the last uses at least one of the bytes that count, so there
+-- are at most LIMIT + 1 subjects.
 pub record IsFew (one : Connection Ask) : Type 0 where
   pub whole_ones : one.ended ≡ false → all_whole one.heard ≡ true
   pub few : length one.heard ≤ LIMIT + 1
@@ -175,7 +176,7 @@ module _ (app : AnswerSpec) (law : IsReading IsTaken) where
   closed_is c true = refl
   closed_is c false = refl
 
-  -- that it was closed is not told to it
+  -- That the connection was closed isn't written to it.
   closed_raw : (c : ℕ) (b : Bool) → outs_on spellings.Raw (closing c b) ≡ []
   closed_raw c true = refl
   closed_raw c false = refl
@@ -200,7 +201,7 @@ gave_same a b c bytes back one two = λ told. one (back told) ∙ ap (λ (l : Li
 
 -- ---- the pieces so far
 
--- these pieces were served, after which the connection is closed or not
+-- These pieces were served. After them the connection is closed or not.
 pub record LinkProgress (app : AnswerSpec) (c first : ℕ) (hub : HubSeen) (link : Span LinkSeen) (k : Span RunSeen) (count : ℕ) (closed : Bool) (out audit : List ℕ) : Type 0 where
   pub pieces : List (List ℕ)
   pub log : List LogEntry
@@ -223,7 +224,7 @@ pub record LinkProgress (app : AnswerSpec) (c first : ℕ) (hub : HubSeen) (link
   pub out_text : out ≡ replies_on spellings.Raw log
   pub audit_text : audit ≡ audited_from (first + 1) log
 
--- how many bytes of a connection a hub has taken
+-- The number of bytes that a hub has taken from a connection.
 abbrev pub taken_in : Option ChannelSeen → ℕ
 taken_in None = 0
 taken_in (Some channel) = channel.taken
@@ -231,7 +232,7 @@ taken_in (Some channel) = channel.taken
 abbrev pub taken_by : HubSeen → ℕ → ℕ
 taken_by hub c = taken_in (hub.channels c)
 
--- a hub has taken all bytes of an open connection, and fewer than count
+-- A hub has taken all bytes of an open connection, and they are fewer than the limit.
 taken_open : (app : AnswerSpec) (o : Option ChannelSeen) (one : Connection Ask) → AreLikeAt (hearing app) o (Some one) → is_closed one ≡ false
     → (taken_in o ≡ length one.bytes) × (length one.bytes < LIMIT)
 taken_open app None one like open_still = absurd like
@@ -264,7 +265,7 @@ limit_some : 1 ≤ LIMIT
 unfolding LIMIT
 limit_some = omega arith
 
--- no piece was served yet
+-- No piece was served yet.
 pub link_start : (app : AnswerSpec) (lawful : IsAnswerSpec app) (c first : ℕ) (link : LinkSeen) (k : RunSeen) → app.ready k
     → LinkProgress app c first (begun_hub c) (span link link) (span k k) first false [] []
 link_start app lawful c first link k start = record {
@@ -293,7 +294,7 @@ link_start app lawful c first link k start = record {
 module _ (app : AnswerSpec) (lawful : IsAnswerSpec app) (law : IsReading IsTaken) (c first : ℕ) (hub : HubSeen) (la lb lc : LinkSeen) (a b d : RunSeen) (count : ℕ) (o au p bu : List ℕ)
     (back : IsTrue lc.tells → IsTrue lb.tells)
     (so_far : LinkProgress app c first hub (span la lb) (span a b) count false o au) where
-  -- the number of the next event
+  -- The number of the next event.
   abbrev pub place : ℕ
   place = 0 + length (Begin c ∷ pieces_of c so_far.pieces)
 
@@ -303,7 +304,7 @@ module _ (app : AnswerSpec) (lawful : IsAnswerSpec app) (law : IsReading IsTaken
       brought_by_some app law place c bytes so_far.one mine so_far.is_closed_now
       (subst (λ (x : Option (Connection Ask)). PieceBrings (hearing app) place c bytes x mine) so_far.here h)
 
-  -- one more piece
+  -- One more piece.
   pub link_on : (new : HubSeen) (brought : EventOutcome) → IsPieceOn app c new (span lb lc) (span b d) count brought place so_far.known p bu
       → LinkProgress app c first new (span la lc) (span a d) brought.count brought.closed (o ++ p) (au ++ bu)
   link_on new brought s =
@@ -365,20 +366,20 @@ module _ (app : AnswerSpec) (lawful : IsAnswerSpec app) (law : IsReading IsTaken
             ∙ audited_on first count so_far.log mine so_far.count_is;
       }
 
--- the connection has begun
+-- The connection has begun.
 pub link_begun : (app : AnswerSpec) (c first : ℕ) (hub : HubSeen) (link : Span LinkSeen) (k : Span RunSeen) (count : ℕ) (closed : Bool) (o au : List ℕ)
     → LinkProgress app c first hub link k count closed o au → IsSome (hub.channels c)
 link_begun app c first hub link k count closed o au s =
     open_some app (hub.channels c) s.one (subst (λ (x : Option (Connection Ask)). AreLikeAt (hearing app) (hub.channels c) x) s.here (s.like c))
 
--- how many bytes were taken of a connection that is open
+-- The number of bytes that were taken from an open connection.
 link_taken : (app : AnswerSpec) (c first : ℕ) (hub : HubSeen) (link : Span LinkSeen) (k : Span RunSeen) (count : ℕ) (o au : List ℕ)
     → (s : LinkProgress app c first hub link k count false o au) → (taken_by hub c ≡ length (concat s.pieces)) × (length (concat s.pieces) < LIMIT)
 link_taken app c first hub link k count o au s =
     let t = taken_open app (hub.channels c) s.one (subst (λ (x : Option (Connection Ask)). AreLikeAt (hearing app) (hub.channels c) x) s.here (s.like c)) s.is_closed_now in
     (t.0 ∙ ap (λ (l : List ℕ). length l) s.bytes, subst (λ (l : List ℕ). length l < LIMIT) s.bytes t.1)
 
--- a piece that gave bytes leaves fewer to be taken
+-- After a piece that gave bytes, fewer are left to take.
 pub link_less : (app : AnswerSpec) (c first : ℕ) (hub new : HubSeen) (link later : Span LinkSeen) (k now : Span RunSeen) (count more : ℕ) (o au p bu : List ℕ) (bytes : List ℕ)
     → (s : LinkProgress app c first hub link k count false o au) (t : LinkProgress app c first new later now more false p bu)
     → t.pieces ≡ s.pieces ++ bytes ∷ [] → 0 < length bytes → LIMIT - taken_by new c < LIMIT - taken_by hub c
@@ -393,7 +394,7 @@ link_less app c first hub new link later k now count more o au p bu bytes s t is
     let long = length-append (concat s.pieces) bytes in
     omega (arith, one, few, two, fewer, joined, long, some)
 
--- so does each step of an open connection
+-- So it is after each step of an open connection.
 pub link_nearer : (app : AnswerSpec) (lawful : IsAnswerSpec app) (law : IsReading IsTaken) (c first : ℕ) (hub new : HubSeen) (la lb lc : LinkSeen) (a b d : RunSeen) (count more : ℕ) (o au p bu : List ℕ)
     (back : IsTrue lc.tells → IsTrue lb.tells) (s : LinkProgress app c first hub (span la lb) (span a b) count false o au)
     → IsPieceOn app c new (span lb lc) (span b d) count (record { count = more; closed = false }) (place app lawful law c first hub la lb lc a b d count o au p bu back s) s.known p bu
@@ -405,7 +406,7 @@ link_nearer app lawful law c first hub new la lb lc a b d count more o au p bu b
 
 -- ---- the end
 
--- the end of a connection brings nothing
+-- The end of a connection brings no entries.
 brings_end : (app : AnswerSpec) (c : ℕ) (events : List Event) (known later : Connections Ask) (n : ℕ) (log : List LogEntry) (text : List ℕ)
     → Brings app known n events log text later → IsHeardFrom (hearing app) known n (events ++ Finish c ∷ []) log
 brings_end app c [] known later n log text (no_log, no_text, same) = ([], [], no_log, refl, refl)
@@ -420,7 +421,7 @@ pub limit_is : LIMIT ≡ 16777216
 unfolding LIMIT
 limit_is = refl
 
--- nothing was taken, put or asked
+-- Nothing was taken, put or asked.
 pub link_quiet : (app : AnswerSpec) (c first : ℕ) (hub : HubSeen) (la lb lc : LinkSeen) (a b d : RunSeen) (count : ℕ) (closed : Bool) (o au p bu : List ℕ)
     → (IsTrue lc.tells → IsTrue lb.tells) → LinkProgress app c first hub (span la lb) (span a b) count closed o au → IsQuiet (span lb lc) (span b d) p bu
     → LinkProgress app c first hub (span la lc) (span a d) count closed (o ++ p) (au ++ bu)
@@ -460,7 +461,7 @@ module _ (app : AnswerSpec) (c first : ℕ) (hub : HubSeen) (la lb : LinkSeen) (
       ap (λ (x : Bool). x || nat_le LIMIT (length (concat s.pieces))) (sym s.ended)
       ∙ ap (λ (l : List ℕ). s.one.ended || nat_le LIMIT (length l)) (sym s.bytes) ∙ s.is_closed_now ∙ is
 
-  -- the input was heard whole
+  -- The input was heard whole.
   pub link_whole : (n : ℕ) → n + first ≡ count → (IsTrue lb.tells → lb.left ≡ []) ⊎ (closed ≡ true) → IsLinkServed app c first (span la lb) (span a b) (Ok n) o au
   link_whole n less ended = record {
     pieces = s.pieces;
@@ -480,7 +481,7 @@ module _ (app : AnswerSpec) (c first : ℕ) (hub : HubSeen) (la lb : LinkSeen) (
       by_end (inl none) = inl none
       by_end (inr is) = inr (over is)
 
-  -- the link failed at a take
+  -- The link failed while a piece was taken.
   pub link_missed : (n : ℕ) → n + first ≡ count → Rose la.faults lb.faults → IsLinkServed app c first (span la lb) (span a b) (Ok n) o au
   link_missed n less rose = record {
     pieces = s.pieces;
@@ -497,7 +498,7 @@ module _ (app : AnswerSpec) (c first : ℕ) (hub : HubSeen) (la lb : LinkSeen) (
     puts = inl (record { out_text = s.out_text; audit_text = s.audit_text });
   }
 
-  -- memory ran out for a take
+  -- Memory ran out while a piece was taken.
   pub link_wanting : IsLinkServed app c first (span la lb) (span a b) (Err halts.Memory) o au
   link_wanting = record {
     pieces = s.pieces;
@@ -514,7 +515,7 @@ module _ (app : AnswerSpec) (c first : ℕ) (hub : HubSeen) (la lb : LinkSeen) (
     puts = record { out_text = s.out_text; audit_text = s.audit_text };
   }
 
--- nothing came, as memory ran out
+-- Nothing was taken, because memory ran out.
 pub link_unbegun : (app : AnswerSpec) (lawful : IsAnswerSpec app) (c first : ℕ) (link : LinkSeen) (k : RunSeen) → app.ready k
     → IsLinkServed app c first (span link link) (span k k) (Err halts.Memory) [] []
 link_unbegun app lawful c first link k start =
@@ -559,7 +560,7 @@ module _ (app : AnswerSpec) (lawful : IsAnswerSpec app) (law : IsReading IsTaken
   lost_behind : (lost : FailedSink) → IsLastLost spellings.Raw lost count mine p bu → IsLastLost spellings.Raw lost first (s.log ++ mine) (o ++ p) (au ++ bu)
   lost_behind lost last = last_behind lost first count s.log mine o au p bu s.count_is s.out_text s.audit_text last
 
-  -- a put on the audit failed
+  -- A put on the audit failed.
   pub link_cut : IsLastLost spellings.Raw losses.Audit count mine p bu → IsLinkServed app c first (span la lc) (span a d) (Err halts.Write) (o ++ p) (au ++ bu)
   link_cut last = record {
     pieces = s.pieces ++ piece.bytes ∷ [];
@@ -575,7 +576,7 @@ module _ (app : AnswerSpec) (lawful : IsAnswerSpec app) (law : IsReading IsTaken
     puts = lost_behind losses.Audit last;
   }
 
-  -- a put on the link failed
+  -- A put on the link failed.
   pub link_torn : (last n : ℕ) → n + first ≡ last → IsTornOn (span lb lc) count last mine p bu → la.faults ≤ lb.faults
       → IsLinkServed app c first (span la lc) (span a d) (Ok n) (o ++ p) (au ++ bu)
   link_torn last n less torn later =

@@ -5,7 +5,7 @@ use Rattle.jac_io.specs.Linked.{LinkSeen, LinkLasts}
 use Rattle.jac_connections.specs.Link.{as_sink}
 use Rattle.jac_serve_events.specs.Outside.{span, Took}
 
--- a link lasts as a sink does
+-- If a link lasts over a call, so does the sink that it is seen as.
 pub sink_lasts : (a b : LinkSeen) → LinkLasts a b → Lasts (as_sink a) (as_sink b)
 sink_lasts a b lasts = record { later = lasts.later; told = lasts.told; same_aims = λ told. refl }
 

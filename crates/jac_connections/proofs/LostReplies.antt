@@ -1,4 +1,4 @@
--- Replies that were lost, after entries of which all was put.
+-- A reply that was lost, after entries whose lines were all put.
 use Rattle.std.proofs.Common.{◌≡◌, ◌∙◌, ap, sym, subst, refl, ℕ, ◌+◌, List, [], ◌∷◌, ◌++◌, length, append_assoc, append-nil, length-append, arith}
 use Rattle.jac_replies.specs.declared.reply.Spelling.TheVariants as spellings
 use Rattle.jac_serve_events.specs.declared.outputs.FailedSink.{FailedSink}
@@ -16,7 +16,7 @@ audited_on first count log mine is =
     ap (λ (n : ℕ). audited_from (first + 1) log ++ audited_from n mine) (omega (arith, is))
     ∙ sym (audited-append (first + 1) log mine)
 
--- of the entries before these all was put
+-- The lines of the entries before these were all put.
 pub last_behind : (lost : FailedSink) (first count : ℕ) (log mine : List LogEntry) (o au p bu : List ℕ)
     → count ≡ first + length log → o ≡ replies_on spellings.Raw log → au ≡ audited_from (first + 1) log
     → IsLastLost spellings.Raw lost count mine p bu → IsLastLost spellings.Raw lost first (log ++ mine) (o ++ p) (au ++ bu)
@@ -45,14 +45,14 @@ line_last first log entry =
     ap (λ (t : List ℕ). audited_from (first + 1) log ++ t) (sym (append-nil (audit_line (first + length log + 1) entry)))
     ∙ audited_on first (first + length log) log (entry ∷ []) refl
 
--- a reply that was lost on the link has its line
+-- If a reply was lost on the link, its audit line was put.
 pub lost_lines : (first : ℕ) (log : List LogEntry) (out audit : List ℕ)
     → IsLastLost spellings.Raw losses.Out first log out audit → audit ≡ audited_from (first + 1) log
 lost_lines first log out audit s =
     s.audit_text ∙ ap (λ (t : List ℕ). audited_from (first + 1) s.whole_ones ++ t) s.torn.1
     ∙ line_last first s.whole_ones s.entry ∙ ap (audited_from (first + 1)) (sym s.parts)
 
--- and one that was lost in its line has the front of it
+-- If a reply was lost on the audit, a prefix of its line was put.
 pub torn_lines : (first : ℕ) (log : List LogEntry) (out audit : List ℕ)
     → IsLastLost spellings.Raw losses.Audit first log out audit → IsFront audit (audited_from (first + 1) log)
 torn_lines first log out audit s =

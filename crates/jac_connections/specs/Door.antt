@@ -13,14 +13,14 @@ use Rattle.jac_serve_events.specs.AnswerSpec.{LogEntry, AnswerSpec}
 use Rattle.jac_serve_events.specs.Log.{audit_lines}
 use Rattle.jac_serve_events.specs.Outside.{Span, span, Took, IsFront}
 
--- a link as it came, as serving it left it, and what the call answered
+-- A link before and after it was served, and the result of the call.
 pub record LinkVisit (L : Type 0) : Type 0 where
   pub came : L
   pub gone : L
   pub result : Result ℕ Halt
 
--- connection c was served: its link holds these bytes more, these are its entries, and these its
--- lines on the audit
+-- Connection c was served. These bytes were added to its link, these are its entries, and these its
+-- audit lines.
 pub record IsVisited {L : Type 0} (seen : L → LinkSeen) (app : AnswerSpec) (c first : ℕ)
     (k : Span RunSeen) (visit : LinkVisit L) (mine : List LogEntry) (lines : List ℕ) : Type 0 where
   pub out : List ℕ
@@ -29,8 +29,8 @@ pub record IsVisited {L : Type 0} (seen : L → LinkSeen) (app : AnswerSpec) (c 
       out lines
   pub entries : served.log ≡ mine
 
--- connections were served one after another, of which the first is the c-th, before which there
--- were `first` replies
+-- Connections were served one after another. The first is the c-th, and there were `first` replies
+-- before it.
 abbrev pub AreVisited : {L : Type 0} → (L → LinkSeen) → AnswerSpec → ℕ → ℕ → RunSeen → List
     (LinkVisit L)
     → List LogEntry → List ℕ → RunSeen → Type 0
@@ -42,30 +42,30 @@ AreVisited seen app c first before (visit ∷ visits) log audit after =
     × (audit ≡ lines ++ more)
     × AreVisited seen app (c + 1) (first + length mine) between visits others more after
 
--- the one that wasn't handed back
+-- The visit whose link wasn't handed back, if there is one.
 abbrev pub open_visits : {L : Type 0} → Option (LinkVisit L) → List (LinkVisit L)
 open_visits None = []
 open_visits (Some visit) = visit ∷ []
 
--- each of these calls answered a count
+-- Each of these calls returned a count.
 abbrev pub AreWhole : {L : Type 0} → List (LinkVisit L) → Type 0
 AreWhole [] = Unit {0}
 AreWhole (visit ∷ visits) = IsOk visit.result × AreWhole visits
 
--- a put on the audit failed
+-- A put on the audit failed.
 abbrev pub is_cut : Result Tally DoorHalt → Bool
 is_cut (Ok tally) = false
 is_cut (Err halts.Door) = false
 is_cut (Err halts.Write) = true
 is_cut (Err halts.Memory) = false
 
--- all of them, or some of them from the first on
+-- All of the bytes, or a prefix of them.
 abbrev pub IsPart : Bool → List ℕ → List ℕ → Type 0
 IsPart false bytes all = bytes ≡ all
 IsPart true bytes all = IsFront bytes all
 
--- why serving ended, of at most so many connections: that many came, or a door that tells had no
--- more; or the call that was served last says why
+-- Why serving at most `most` connections ended. Either that many came, or a door whose contents are
+-- known had no more, or a call of the door failed, or the last connection ended with this error.
 abbrev pub IsEnding : {L : Type 0} → ℕ → Span (DoorSeen L) → List (LinkVisit L) → Option
     (LinkVisit L)
     → List LogEntry → Result Tally DoorHalt → Type 0
@@ -80,9 +80,9 @@ IsEnding {L = L} most door visits last log (Err halts.Write) = (visit : LinkVisi
 IsEnding {L = L} most door visits last log (Err halts.Memory) = (visit : LinkVisit L)
     × (last ≡ Some visit) × (visit.result ≡ Err ways.Memory)
 
--- at most so many connections of a door were served, numbered from 1, and their replies counted
--- from 1: each that was served whole was handed back, in order, and the one log of all shows what
--- they leave
+-- At most `most` connections of a door were served. They and their replies are numbered from 1.
+-- Each link that was served whole was handed back, in order, and one log of all connections shows
+-- what they leave.
 pub record AreLinksServed {L : Type 0} (seen : L → LinkSeen) (app : AnswerSpec) (most : ℕ)
     (door : Span (DoorSeen L)) (k : Span RunSeen)
     (result : Result Tally DoorHalt) (audit : List ℕ) : Type 0 where

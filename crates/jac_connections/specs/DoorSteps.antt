@@ -15,7 +15,7 @@ use Rattle.jac_serve_events.specs.Outside.{Span}
 abbrev pub link_visit : {L : Type 0} → L → L → Result ℕ Halt → LinkVisit L
 link_visit came gone result = record { came = came; gone = gone; result = result }
 
--- a link of the door was served after so many, and handed back or not
+-- A link of the door was served after this many, and was handed back or not.
 pub record Visits {L : Type 0} (seen : L → LinkSeen) (app : AnswerSpec) (tally : Tally) (line : L)
     (handed : Bool) (door : Span (DoorSeen L)) (k : Span RunSeen)
     (result : Result ℕ Halt) (audit : List ℕ) : Type 0 where
@@ -26,7 +26,7 @@ pub record Visits {L : Type 0} (seen : L → LinkSeen) (app : AnswerSpec) (tally
   pub returned : IsTrue door.after.tells → door.after.returned ≡ door.before.returned ++ (if handed
       then gone ∷ [] else [])
 
--- this link, which the door gave, was served
+-- This link, which the door gave, was served.
 abbrev pub VisitsLine : {L : Type 0} → (L → LinkSeen) → AnswerSpec → Tally → L → Span (DoorSeen L)
     → Span RunSeen → Result Tally DoorHalt → List ℕ → Type 0
 VisitsLine seen app tally line door k (Ok more) audit =
@@ -41,11 +41,11 @@ VisitsLine seen app tally line door k (Err halts.Write) audit = Visits seen app 
 VisitsLine seen app tally line door k (Err halts.Memory) audit = Visits seen app tally line false
     door k (Err ways.Memory) audit
 
--- the door gave this link, and the others are still to come
+-- The door gave this link, and the others are still to come.
 abbrev pub GaveLine : {L : Type 0} → Span (DoorSeen L) → L → Type 0
 GaveLine door line = IsTrue door.after.tells → door.before.coming ≡ line ∷ door.after.coming
 
--- no link was served
+-- No link was served.
 pub record IsUnvisited {L : Type 0} (door : Span (DoorSeen L)) (k : Span RunSeen) (audit : List ℕ) :
     Type 0 where
   pub coming : IsTrue door.after.tells → door.after.coming ≡ door.before.coming
@@ -53,7 +53,7 @@ pub record IsUnvisited {L : Type 0} (door : Span (DoorSeen L)) (k : Span RunSeen
   pub still : k.after ≡ k.before
   pub no_audit : audit ≡ []
 
--- the next link of a door is served, where there is one
+-- The next link of a door is served, if there is one.
 abbrev pub ServesNext : {L : Type 0} → (L → LinkSeen) → AnswerSpec → Tally → Span (DoorSeen L)
     → Span RunSeen → Result (Option Tally) DoorHalt → List ℕ → Type 0
 ServesNext {L = L} seen app tally door k (Ok (Some more)) audit =

@@ -1,4 +1,4 @@
--- The steps of serving a link: takes, puts, and what a piece brings.
+-- The steps of serving a link: pieces are taken, their requests are answered, and replies are put.
 use Rattle.std.specs.Prelude.{◌≡◌, ◌⊎◌, ℕ, ◌+◌, true, false, IsTrue, IsSome, if◌then◌else◌, Result, Ok, Err, Option, Some, None, List, [], ◌++◌, length}
 use Rattle.jac_io.specs.Faults.{Rose}
 use Rattle.jac_io.specs.Linked.{LinkSeen}
@@ -31,7 +31,7 @@ use Rattle.jac_serve_events.specs.Outside.{Span, Sinks}
 use Rattle.jac_serve_events.specs.Serve.{IsEventServed, IsLastLost, IsEventCut}
 use Rattle.jac_serve_events.specs.ReplyWriter.{ReplyWriterSeen}
 
--- a link's next piece: none at the end of its input
+-- The next piece of a link: none at the end of its input.
 abbrev pub TakesPiece : Span LinkSeen → Result (Option (List ℕ)) TakeError → Type 0
 TakesPiece link (Ok None) = IsTrue link.after.tells → (link.before.left ≡ [])
     × (link.after.left ≡ [])
@@ -41,7 +41,7 @@ TakesPiece link (Err misses.Link) = (IsTrue link.after.tells → link.after.left
     × Rose link.before.faults link.after.faults
 TakesPiece link (Err misses.Memory) = IsTrue link.after.tells → link.after.left ≡ link.before.left
 
--- what is seen of a link on which replies are told
+-- What is seen of a link as a reply writer.
 abbrev pub wire_seen : {N : Type 0} → (N → LinkSeen) → Wire N → ReplyWriterSeen ℕ (List ℕ)
 wire_seen seen wire = record {
   of = wire.link.ghost_name;
@@ -49,23 +49,23 @@ wire_seen seen wire = record {
   rest = (seen wire.link.now).left;
 }
 
--- a piece of a connection that has begun
+-- The event is a piece of a connection that has begun.
 abbrev pub MayTake : HubSeen → Event → Type 0
 MayTake hub (Asking viewer method path query body) = ⊥
 MayTake hub (Begin c) = ⊥
 MayTake hub (Piece c bytes) = IsSome (hub.channels c)
 MayTake hub (Finish c) = ⊥
 
--- a hub took the event, as far as memory allowed
+-- A hub took the event, as far as there was memory.
 abbrev pub TakesIn : HubSeen → Event → HubSeen → Type 0
 TakesIn hub event new = (taken : Result (Unit {0}) HubFault) × Steps hub event taken new
     × ((taken ≡ Ok tt) ⊎ (taken ≡ Err faults.Memory))
 
--- a hub with one connection, of which nothing came yet
+-- A hub with one connection, from which nothing came yet.
 abbrev pub begun_hub : ℕ → HubSeen
 begun_hub c = record { channels = set_at c (Some new_channel) (λ d. None); turn = Idle }
 
--- an event is served, whichever connections the hub may stand for
+-- An event is served, for any connections with which the hub agrees.
 abbrev pub AnswersOn : AnswerSpec → HubSeen → HubSeen → Span RunSeen → ℕ → Event → Result
     EventOutcome WriteFailure
     → Sinks → List ℕ → List ℕ → Type 0
@@ -76,21 +76,21 @@ AnswersOn app hub new k served event (Err cut) s out audit =
     (n : ℕ) (known : Connections Ask) → AreLike (hearing app) hub.channels known
     → IsEventCut spellings.Raw app k served cut n event known s out audit
 
--- how a connection stands after what its piece brought
+-- The state of a connection after what its piece brought.
 abbrev pub standing_after : EventOutcome → Standing
 standing_after brought = if brought.closed then standings.Over brought.count
     else standings.Open brought.count
 
--- and after a piece of which not all was put
+-- The state after a piece for which not all was put.
 abbrev pub cut_by : FailedSink → ℕ → Result Standing Halt
 cut_by losses.Out count = Ok (standings.Over count)
 cut_by losses.Audit count = Err halts.Write
 
--- the link gave these bytes of its input
+-- The link gave these bytes of its input.
 abbrev pub Gave : Span LinkSeen → List ℕ → Type 0
 Gave link bytes = IsTrue link.after.tells → link.before.left ≡ bytes ++ link.after.left
 
--- a link gave its next piece, and that was served whole
+-- A link gave its next piece, and the piece was served whole.
 pub record IsPieceOn (app : AnswerSpec) (c : ℕ) (new : HubSeen) (link : Span LinkSeen)
     (k : Span RunSeen) (served : ℕ) (brought : EventOutcome) (n : ℕ)
     (known : Connections Ask) (out audit : List ℕ) : Type 0 where
@@ -99,7 +99,7 @@ pub record IsPieceOn (app : AnswerSpec) (c : ℕ) (new : HubSeen) (link : Span L
   pub gave : Gave link bytes
   pub heard : IsEventServed spellings.Raw app new k served brought n (Piece c bytes) known out audit
 
--- a link gave its next piece, whose first entries were answered
+-- A link gave its next piece, and the first entries of the piece were answered.
 pub record IsPieceBegun (app : AnswerSpec) (c : ℕ) (link : Span LinkSeen) (k : Span RunSeen) (n : ℕ)
     (known : Connections Ask) (mine : List LogEntry) : Type 0 where
   pub bytes : List ℕ
@@ -108,21 +108,21 @@ pub record IsPieceBegun (app : AnswerSpec) (c : ℕ) (link : Span LinkSeen) (k :
   pub begun : IsBegunBy (hearing app) n (Piece c bytes) known mine
   pub entries : app.entries k mine
 
--- the put for the last of these entries failed on the link, and that was their count
+-- The put for the last of these entries failed on the link, and `count` includes them.
 pub record IsTornOn (link : Span LinkSeen) (served count : ℕ) (mine : List LogEntry)
     (out audit : List ℕ) : Type 0 where
   pub lost : IsLastLost spellings.Raw losses.Out served mine out audit
   pub count_is : count ≡ served + length mine
   pub rose : Rose link.before.faults link.after.faults
 
--- nothing was taken, put or asked
+-- Nothing was taken, put or asked.
 pub record IsQuiet (link : Span LinkSeen) (k : Span RunSeen) (out audit : List ℕ) : Type 0 where
   pub gave : Gave link []
   pub still : k.after ≡ k.before
   pub no_out : out ≡ []
   pub no_audit : audit ≡ []
 
--- the input has ended, or the link failed
+-- The input has ended, or the link failed.
 pub record IsLast (link : Span LinkSeen) (k : Span RunSeen) (served count : ℕ)
     (out audit : List ℕ) : Type 0 where
   pub quiet : IsQuiet link k out audit
@@ -130,7 +130,8 @@ pub record IsLast (link : Span LinkSeen) (k : Span RunSeen) (served count : ℕ)
   pub cause : (IsTrue link.after.tells → link.after.left ≡ [])
       ⊎ Rose link.before.faults link.after.faults
 
--- the next piece of connection c is taken and served, whichever connections the hub may stand for
+-- The next piece of connection c is taken and served, for any connections with which the hub
+-- agrees.
 abbrev pub ServesPiece : AnswerSpec → ℕ → HubSeen → HubSeen → Span LinkSeen → Span RunSeen → ℕ
     → Result Standing Halt → List ℕ → List ℕ → Type 0
 ServesPiece app c hub new link k served (Ok (standings.Open count)) out audit =

@@ -1,4 +1,4 @@
-//! The links of a door are served, one after another.
+//! Serves the links of a door, one after another.
 ghost use Rattle.std.specs.Prelude.{◌≡◌, ◌≤◌, ◌<◌, ◌*◌, ◌-◌, ◌^◌, IfOk, IfSome, IsTrue, Err};
 ghost use Rattle.jac_io.specs.Faults.{Rose};
 ghost use Rattle.jac_io.specs.Linked.{DoorLasts};
@@ -11,7 +11,7 @@ use crate::link::{Halt, serve_link};
 use jac_io::{AuditSink, Door, Failed};
 use jac_serve_events::Dispatch;
 
-/// How many connections were served, and how many replies they got.
+/// The number of connections that were served, and of their replies.
 #[derive(Clone, Copy, PartialEq, Eq)]
 pub struct Tally {
     pub connections: u32,
@@ -69,7 +69,7 @@ fn serve_line<K: Dispatch, D: Door, U: AuditSink>(
     }
 }
 
-// Serves the door's next link; none where it has no more.
+// Serves the door's next link. Returns none if there is no more.
 fn serve_next<K: Dispatch, D: Door, U: AuditSink>(
     dispatcher: &mut K,
     tally: Tally,
@@ -103,8 +103,8 @@ fn serve_next<K: Dispatch, D: Door, U: AuditSink>(
     }
 }
 
-/// Serves so many of the door's links at most, as connections that are numbered from 1, and hands
-/// each back. A connection within which serving ends isn't handed back.
+/// Serves at most `most` links of the door, as connections numbered from 1, and hands each of them
+/// back. A connection during which serving ends isn't handed back.
 pub fn serve_links<K: Dispatch, D: Door, U: AuditSink>(
     dispatcher: &mut K,
     most: u32,

@@ -1,5 +1,5 @@
-//! A link is served as a text of its pieces would be, and each link of a door one after another,
-//! over any dispatcher that answers requests.
+//! Serves the connections of a listening socket one after another. The replies are those of a
+//! replay of the same pieces.
 #![tactic(auto)]
 
 mod door;

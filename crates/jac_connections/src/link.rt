@@ -1,5 +1,5 @@
-//! A link is served: its input is the pieces of one connection, and the replies go back on it as
-//! they are.
+//! Serves a link. Its input is the pieces of one connection, and the replies are written to it
+//! without change.
 ghost use Rattle.std.specs.Prelude.{◌≡◌, ◌<◌, ◌+◌, ◌-◌, ◌^◌, IsSome, IsTrue, OnOk, Err};
 ghost use Rattle.jac_io.specs.Faults.{Rose};
 ghost use Rattle.jac_serve_events.specs.Dispatcher.{MayServe, KeepsDispatcher, kept};
@@ -29,14 +29,14 @@ pub enum Halt {
     Memory,
 }
 
-/// The state of a connection after a piece, and the count of replies by then.
+/// The state of a connection after a piece, and the count of replies up to now.
 #[derive(Clone, Copy, PartialEq, Eq)]
 enum Standing {
     Open { count: u64 },
     Over { count: u64 },
 }
 
-// Tells what a hub gives for its last event on the link.
+// Writes what a hub gives for its last event on the link.
 fn put_on<D: Dispatch, N: Link, U: AuditSink>(
     dispatcher: &mut D,
     served: u64,
@@ -59,7 +59,7 @@ fn put_on<D: Dispatch, N: Link, U: AuditSink>(
     put_given(dispatcher, served, hub, &mut wire, audit)
 }
 
-// Has a hub take a piece. Where memory runs out for it, the hub gives the reply that says so.
+// Lets a hub take a piece. If memory runs out for it, the hub gives the reply that says so.
 fn take_in(alloc: Global, hub: &mut Hub, event: &Event)
     requires idle { (hub_seen hub.old).turn ≡ Idle }
     requires piece { MayTake (hub_seen hub.old) event.now }
@@ -100,7 +100,7 @@ fn serve_event<D: Dispatch, N: Link, U: AuditSink>(
     put_on(dispatcher, served, hub, link, audit)
 }
 
-// How a connection stands after a piece.
+// The state of a connection after a piece.
 fn stands(brought: EventOutcome) -> Standing
     ensures { result ≡ standing_after brought }
 {
@@ -115,7 +115,8 @@ fn stands(brought: EventOutcome) -> Standing
     }
 }
 
-// The same after a piece of which not all was told: a link that failed ends its connection alone.
+// The state after a piece for which not all was written. A link that failed ends only its own
+// connection.
 fn cut_short(cut: WriteFailure) -> Result<Standing, Halt>
     ensures { result ≡ cut_by cut.lost cut.count }
 {
@@ -164,7 +165,7 @@ fn serve_piece<D: Dispatch, N: Link, U: AuditSink>(
     }
 }
 
-// Begins a connection, of which nothing comes yet.
+// Begins a connection, from which nothing comes yet.
 fn begin<D: Dispatch>(dispatcher: &mut D, conn: u32, hub: &mut Hub) -> Result<(), Memory>
     requires new { hub_seen hub.old ≡ new_hub }
     requires dispatcher { MayServe D.answer_spec (D.seen dispatcher.old) }
@@ -215,8 +216,8 @@ fn serve_pieces<D: Dispatch, N: Link, U: AuditSink>(
     }
 }
 
-/// Serves the connection of this number, after so many replies: the count of its own. What fails
-/// of the link ends this connection alone.
+/// Serves the connection with this number, after `first` replies, and returns the count of its own
+/// replies. A fault of the link ends only this connection.
 pub fn serve_link<D: Dispatch, N: Link, U: AuditSink>(
     dispatcher: &mut D,
     conn: u32,

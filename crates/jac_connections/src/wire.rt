@@ -12,7 +12,7 @@ use jac_serve_events::ReplyWriter;
 use jac_value::Bytes;
 use std::alloc::Global;
 
-// So many bytes are taken at a time.
+// The number of bytes that are taken at a time.
 const TAKE: usize = 4096;
 
 /// Why there is no piece.
@@ -23,7 +23,7 @@ pub enum TakeError {
     Memory,
 }
 
-/// The next piece of the input, of 4,096 bytes at most; none at its end.
+/// The next piece of the input, of at most 4,096 bytes. None at the end of the input.
 pub fn take_piece<N: Link>(alloc: Global, link: &mut N) -> Result<Option<Bytes>, TakeError>
     ensures taken { TakesPiece (span (N.seen link.old) (N.seen link.new)) result }
     ensures lasts { Lasts (as_sink (N.seen link.old)) (as_sink (N.seen link.new)) }
@@ -43,7 +43,7 @@ pub fn take_piece<N: Link>(alloc: Global, link: &mut N) -> Result<Option<Bytes>,
     }
 }
 
-// One put, whose bytes are named also where the link tells nothing.
+// One put. Its bytes are named even if the contents of the link aren't known.
 fn put_onto<N: Link>(link: &mut N, bytes: &[u8]) -> Result<(), Failed>
     ensures put { IsPut (span (as_sink (N.seen link.old)) (as_sink (N.seen link.new))) bytes.now
         result }
@@ -56,7 +56,7 @@ fn put_onto<N: Link>(link: &mut N, bytes: &[u8]) -> Result<(), Failed>
     }
 }
 
-/// A link, on which the replies of its connection are written as they are.
+/// A link to which the replies of its connection are written without change.
 pub struct Wire<'l, N: Link> {
     pub link: &'l mut N,
 }
