@@ -1,8 +1,8 @@
 -- The text of the demonstration's application, a calendar.
 use Rattle.std.specs.Prelude.{ℕ, List, ◌++◌, codes}
 
--- users, and events whose titles only their hosts see unless they are open; three views, which
--- join, add and list
+-- The models are users and events. Only the host of an event sees its title, unless the event is
+-- open. The three views join, add and list.
 unfoldable pub calendar_text : List ℕ
 calendar_text =
     codes "(app (viewer User)\n"

@@ -4,8 +4,8 @@ ghost use Rattle.jac_demo.specs.Calendar.{calendar_text};
 use jac_value::{Bytes, Memory};
 use std::alloc::Global;
 
-/// The text of an application: a shared calendar, in which the title of an event that isn't open is
-/// its host's alone.
+/// The text of an application: a shared calendar. Only the host of an event sees its title, unless
+/// the event is open.
 pub fn demo_app(alloc: Global) -> Result<Bytes, Memory>
     ensures { IfOk result (λ text. text ≡ calendar_text) }
 {

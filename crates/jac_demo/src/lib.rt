@@ -1,4 +1,4 @@
-//! What the program is tried on without a file: a calendar, and any number of requests to it.
+//! Makes the text of the demo calendar, and of any number of requests to it.
 #![tactic(auto)]
 
 mod calendar;

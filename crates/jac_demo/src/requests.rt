@@ -7,7 +7,7 @@ use std::alloc::Global;
 use std::fmt::Write;
 
 /// The first `count` requests to the calendar of `demo_app`, as lines of an events file, each ended
-/// by a line feed. Three users join first; then each fourth request lists the events, and the
+/// by a line feed. Three users join first. Then every fourth request lists the events, and the
 /// others add one.
 pub fn demo_events(alloc: Global, count: u64) -> Result<Bytes, Memory>
     requires some { 1 ≤ count }
@@ -69,7 +69,7 @@ fn push_list(text: &mut String, number: u64) -> Result<(), Memory>
     Ok(())
 }
 
-// The ids of the first three users are the multiples of 4,096.
+// The ids of the first three users are 4,096, 8,192 and 12,288.
 fn viewer_number(number: u64) -> u64
     ensures { result ≡ viewer_number number }
 {
