@@ -1,4 +1,4 @@
--- What serves a dispatcher may rest on.
+-- What serves a dispatcher may rely on.
 use Rattle.std.proofs.Common.{◌≡◌, sym, subst, refl, IsTrue}
 use Rattle.jac_rows.specs.declared.state.State.{State}
 use Rattle.jac_serve_events.specs.AnswerSpec.{IsAnswerSpec}
@@ -19,7 +19,7 @@ lawful of = record {
   wanting = λ k ready. is_wanting of.lazy of.app k broken refl (λ worlds. refl) (λ w t. refl) ready;
 }
 
--- after an answer that was made, and where none was, a dispatcher may serve again
+-- After an answer that was made, or a failure, a dispatcher may serve again.
 module _ (before after : DispatcherSeen DispatcherOf) (same : after.of ≡ before.of) (stays : after.run_seen.keeper.store ≡ before.run_seen.keeper.store)
     (settled : AreValidCaches before.of.app after.run_seen.keeper after.run_seen.viewer_caches) where
   pub keeps-made : (IsTrue after.run_seen.keeper.tells → IsStart before.of.app after.run_seen.keeper.state) → KeepsDispatcher answer_spec before after

@@ -29,7 +29,8 @@ answered-append : (lazy : Bool) (app : Application) (worlds : Worlds) (xs ys : L
 answered-append lazy app worlds [] ys one two = two
 answered-append lazy app worlds (x ∷ xs) ys one two = (one.0, answered-append lazy app (λ w. after_entry w app x (worlds w)) xs ys one.1 two)
 
--- where no answer of two logs came with a change, none did in either, and so for splits
+-- If no answer of two logs together came with a change, none of either log did. The same holds for
+-- splits.
 unstored-append : (app : Application) (xs ys : List LogEntry) → is_unstored app (xs ++ ys) ≡ true → (is_unstored app xs ≡ true) × (is_unstored app ys ≡ true)
 unstored-append app [] ys h = (refl, h)
 unstored-append app (x ∷ xs) ys h =
@@ -44,7 +45,7 @@ unsplit-append app (x ∷ xs) ys h =
     let rest = unsplit-append app xs ys parts.1 in
     (and_from _ _ parts.0 rest.0, rest.1)
 
--- what a log of one entry passes doesn't hold of the entry
+-- If no entry of a log of one entry has a property, the entry doesn't have it.
 not_alone : (b : Bool) → (not b && true) ≡ true → b ≡ false
 not_alone true h = absurd cc
 not_alone false h = refl
@@ -58,12 +59,12 @@ grew_then before middle after one two first second = omega (arith, first, second
 
 -- ---- the first answer to each viewer
 
--- what tells after some entries told before them
+-- If the contents are known after some entries, they were known before them.
 told_before : (lazy : Bool) (app : Application) (a c : RunSeen) (log : List LogEntry) → AreAnsweredInTurn lazy app a log c → IsTrue c.keeper.tells → IsTrue a.keeper.tells
 told_before lazy app a c [] same told = subst (λ (k : RunSeen). IsTrue k.keeper.tells) same told
 told_before lazy app a c (entry ∷ log) turn told = turn.1.told (told_before lazy app turn.0 c log turn.2 told)
 
--- an entry of somebody else leaves nothing for a viewer for whom nothing was kept
+-- An entry of another viewer leaves no cache for a viewer who had none.
 none_after : (viewer other : Option ℕ) (before after : List ViewerEntry) → AreKeptFor other before after → ¬ (other ≡ viewer) → HasNoCache viewer before → HasNoCache viewer after
 none_after viewer other before after kept differ nothing = record {
   none = λ cache is.
@@ -137,7 +138,7 @@ entries-one lazy app a b entry one = record {
   faults = let f = one.faults in omega (arith, f);
 }
 
--- the worlds before, as the log leaves them
+-- The worlds of a state are those that the log before it leaves.
 worlds_before : (app : Application) (a b : RunSeen) (log : List LogEntry)
     → ((w : ℕ → Bool) → project_at w b.keeper.state ≡ after_log w app log (project_at w a.keeper.state))
     → worlds_of b.keeper.state ≡ (λ (w : ℕ → Bool). after_log w app log (project_at w a.keeper.state))

@@ -39,22 +39,22 @@ use Rattle.jac_viewer_caches.specs.declared.viewer_caches.ViewerEntry.{ViewerEnt
 use Rattle.jac_dispatch.specs.Answered.{IsAnswerMade, IsEntryOf, AsksFewAtFirst, AreKeptFor}
 use Rattle.jac_plain.specs.Shown.{worlds_of}
 
--- what leaves a start may be stored
+-- A change that leaves a start may be stored.
 pub sound_if : (app : Application) (s : State) (change : Option Change) → IsStart app (applied_if change s) → IfSome change (λ c. IsSound (changed_state c s))
 sound_if app s None start = tt
 sound_if app s (Some change) start = start.sound
 
--- without a change the state is what it was
+-- Without a change the state stays as it is.
 pub unapplied : (change : Option Change) (s : State) → is_some change ≡ false → applied_if change s ≡ s
 unapplied None s none = refl
 unapplied (Some change) s none = absurd cc
 
--- a status that has a phrase, and stands for no failure
+-- The status has a phrase, and the answer isn't a failure.
 pub record IsServable (answer : Answer) : Type 0 where
   pub phrase : IsSome (phrase_of answer.status)
   pub answered : is_failure answer ≡ false
 
--- so has each status of an answer of its form
+-- So has each status of an answer of the right form.
 status_servable : (status : ℕ) → IsSome (phrase_of status) → (a : Answer) → (status == 500 || status == 503) ≡ false → a.status ≡ status → IsServable a
 status_servable status some a none same = record {
   phrase = subst (λ (n : ℕ). IsSome (phrase_of n)) (sym same) some;
@@ -110,7 +110,7 @@ servable_found lazy founds.NoRoute app a h = servable_by a 404 status_404 (ap (�
 servable_found lazy (founds.WrongMethod allow) app a h = servable_by a 405 status_405 (ap (λ (x : Answer). x.status) h)
 servable_found lazy (founds.View n pairs) app a h = servable_of lazy (method_in (slice_get app.views n)) a h
 
--- an answer of its form has a status with a phrase, and stands for no failure
+-- An answer of the right form has a status with a phrase, and isn't a failure.
 pub servable : (lazy : Bool) (app : Application) (ask : Ask) (a : Answer) → HasForm lazy app ask a → IsServable a
 servable lazy app ask a h = servable_found lazy (found app ask.method ask.path) app a h
 
@@ -120,27 +120,27 @@ no_fault_status false true shown h = absurd cc
 no_fault_status false false true h = refl
 no_fault_status false false false h = refl
 
--- what stands for no failure stands for no fault
+-- An answer that isn't a failure doesn't report a fault of the keeper.
 no_fault : (a : Answer) → is_failure a ≡ false → is_fault_answer a ≡ false
 no_fault a h = no_fault_status (a.status == 500) (a.status == 503) (is_none a.shown) h
 
 grew_by_none : (before now : ℕ) (fault : Bool) → fault ≡ false → before ≤ now → Grew before (if fault then 1 else 0) now
 grew_by_none before now fault none later = rw none (omega arith)
 
--- nothing was evaluated
+-- No policy was evaluated.
 asks_none : (lazy tells : Bool) (app : Application) (s : State) (viewer : Option ℕ) (viewer_caches : List ViewerEntry) (n : ℕ) → AsksFewAtFirst lazy tells app s viewer viewer_caches n n
 asks_none lazy tells app s viewer viewer_caches n = record { few = λ eager told nothing. record { few = λ local labels ascending live. omega arith } }
 
--- the same is kept
+-- The same caches are kept.
 pub kept_all : (viewer : Option ℕ) (viewer_caches : List ViewerEntry) → AreKeptFor viewer viewer_caches viewer_caches
 kept_all viewer viewer_caches = record { each = λ s is. inr (s.cache, is) }
 
--- a failure is none that is bounded
+-- A failure has no bound on evaluations.
 failed_unbounded : {P : Type 0} (stop : Stop) → is_failure (refusal (status_of_stop stop) None) ≡ false → P
 failed_unbounded stops.Keeper h = absurd cc
 failed_unbounded stops.Memory h = absurd cc
 
--- the answer to a request was made
+-- The answer to a request was made.
 pub is_made : (lazy : Bool) (app : Application) (k : Span RunSeen) (via : RequestSource) (ask : Ask) (close : Bool) (reply audit : List ℕ)
     → (made : IsAnswerMade lazy app k via ask reply audit) → (IsTrue k.after.keeper.tells → IsTrue k.before.keeper.tells)
     → k.before.keeper.faults ≤ k.after.keeper.faults → IsEntryOf lazy app k (whole ask close) made.answer
@@ -172,13 +172,13 @@ grew_if : (before now : ℕ) (stop : Stop) → before ≤ now → (stop ≡ stop
 grew_if before now stops.Keeper later rose = let r = rose refl in omega (arith, r)
 grew_if before now stops.Memory later rose = omega (arith, later)
 
--- a failure splits facets only where the request finds a view that stores
+-- A failure splits facets only where the request finds a view that stores.
 failed_stores : (app : Application) (ask : Ask) (close : Bool) (stop : Stop)
     → may_split app (whole ask close) (refusal (status_of_stop stop) None) ≡ false → stores app ask ≡ false
 failed_stores app ask close stops.Keeper none = (or_parts _ _ none).1
 failed_stores app ask close stops.Memory none = (or_parts _ _ none).1
 
--- a request wasn't answered
+-- A request wasn't answered.
 pub is_failed : (lazy : Bool) (app : Application) (k : Span RunSeen) (ask : Ask) (close : Bool) (stop : Stop)
     → (IsTrue k.after.keeper.tells → k.after.keeper.state ≡ k.before.keeper.state) → (stores app ask ≡ false → k.after.splits ≡ k.before.splits)
     → (IsTrue k.after.keeper.tells → IsTrue k.before.keeper.tells) → (IsTrue k.before.keeper.tells → IsStart app k.before.keeper.state)
@@ -201,7 +201,7 @@ is_failed lazy app k ask close stop same reading told start later rose kept = re
   faults = grew_if _ _ stop later rose;
 }
 
--- memory ran out, and the keeper wasn't called
+-- The dispatcher was out of memory, and the keeper wasn't called.
 pub is_wanting : (lazy : Bool) (app : Application) (k : RunSeen) (subject : LogSubject) → IsFormed lazy app subject (refusal 500 None)
     → ((worlds : Worlds) → IsAnswer lazy app worlds subject (refusal 500 None))
     → ((w : ℕ → Bool) (t : PlainState) → left_of w app subject (refusal 500 None) t ≡ t) → (IsTrue k.keeper.tells → IsStart app k.keeper.state)
@@ -223,7 +223,7 @@ is_wanting lazy app k subject formed answered same start = record {
 status_named : (status : ℕ) → is_refusal status ≡ true → (status == 503) ≡ false
 status_named status h = grind (arith, nat_tests)
 
--- what is refused has the answer of its status, and the keeper wasn't called
+-- A refused request has the answer of its status, and the keeper wasn't called.
 pub is_refused : (lazy : Bool) (app : Application) (k : RunSeen) (status : ℕ) → is_refusal status ≡ true → (IsTrue k.keeper.tells → IsStart app k.keeper.state)
     → IsEntryOf lazy app (record { before = k; after = k }) (refused status) (refused_with status)
 is_refused lazy app k status named start = record {

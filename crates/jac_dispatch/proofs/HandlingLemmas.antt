@@ -61,7 +61,7 @@ phrase_at status n some is =
     let same : n ≡ status = grind (arith, nat_tests) in
     subst (λ (m : ℕ). IsSome (phrase_of m)) same some
 
--- each status of what is refused has its phrase
+-- Each status of a refusal has its phrase.
 pub refusal_phrase : (status : ℕ) → is_refusal status ≡ true → IsSome (phrase_of status)
 refusal_phrase status named =
     either (status == 400 || status == 413 || status == 415 || status == 431) (status == 501) (IsSome (phrase_of status)) named
@@ -75,7 +75,7 @@ refusal_phrase status named =
 refusal_goes_on : (status : ℕ) → is_refusal status ≡ true → (status == 500 || status == 503) ≡ false
 refusal_goes_on status named = grind (arith, nat_tests)
 
--- what is refused is told so, or memory ran out
+-- A refused request gets its refusal, or the dispatcher was out of memory.
 pub refused-handled : (spelling : Spelling) (lazy : Bool) (app : Application) (sessions : List Session) (k : RunSeen) (c status : ℕ) (sent : Sent) → is_refusal status ≡ true
     → (IsTrue k.keeper.tells → IsStart app k.keeper.state) → IsRefusalSent spelling c status sent → Handles spelling (answer_spec_of lazy app sessions) k c (Refused status) sent k
 refused-handled spelling lazy app sessions k c status sent named start (inl is) = subst (λ (s : Sent). Handles spelling (answer_spec_of lazy app sessions) k c (Refused status) s k) (sym is) (
@@ -87,7 +87,7 @@ refused-handled spelling lazy app sessions k c status sent named start (inr is) 
   record { line = refl; audit = λ n. refl; closing = refl; entry = is_wanting lazy app k (refused status) (inl refl) (λ worlds. inl refl) (λ w t. refl) start },
 )
 
--- a request was answered
+-- A request was answered.
 pub request-handled : (spelling : Spelling) (lazy : Bool) (app : Application) (sessions : List Session) (a b : RunSeen) (c : ℕ) (request : Request) (reply audit : List ℕ) (sent : Sent)
     → IsAnswerMade lazy app (span a b) (ways.Connection c request.close spelling) (request_in app sessions request) reply audit
     → (IsTrue b.keeper.tells → IsTrue a.keeper.tells) → a.keeper.faults ≤ b.keeper.faults
@@ -114,7 +114,7 @@ failed_closes : (stop : Stop) → true ≡ is_failure (refusal (status_of_stop s
 failed_closes stops.Keeper = refl
 failed_closes stops.Memory = refl
 
--- a request wasn't answered
+-- A request wasn't answered.
 pub failed-handled : (spelling : Spelling) (lazy : Bool) (app : Application) (sessions : List Session) (a b : RunSeen) (c : ℕ) (request : Request) (stop : Stop) (status : Fixed) (head : Bool) (viewer : Option ℕ)
     → status_of_fixed status ≡ status_of_stop stop → head ≡ bytes_eq request.method (codes "HEAD") → viewer ≡ (request_in app sessions request).viewer
     → (IsTrue b.keeper.tells → b.keeper.state ≡ a.keeper.state) → (stores app (request_in app sessions request) ≡ false → b.splits ≡ a.splits)

@@ -1,4 +1,4 @@
--- A state that fits an application's shapes is one that its requests may start from.
+-- If a state fits an application's shapes, its requests may be answered in it.
 use Rattle.std.proofs.Common.{◌≡◌, ◌∙◌, ap, refl, zero, suc, ℕ, true, List, [], ◌∷◌, length, arith}
 use Rattle.std.specs.Prelude.{IsSomeAnd, slice_get}
 use Rattle.std.specs.List.{AllByRecursion}
@@ -39,7 +39,7 @@ flat_rows models next m (r ∷ rows) all = (
   flat_rows models next m rows all.1,
 )
 
--- the ids of a good state are wide just in nested models
+-- In a good state, only nested models have wide ids.
 flat_if_good : (app : Application) (t : PlainState) → IsGoodPlain (shapes_of app) t → AreFlat app.models t.tables
 flat_if_good app t is m =
     flat_rows app.models t.number m _

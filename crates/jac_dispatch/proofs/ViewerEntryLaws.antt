@@ -1,4 +1,4 @@
--- What is kept for those who looked, after an answer.
+-- Viewers' caches after an answer.
 use Rattle.std.proofs.Common.{◌≡◌, ap, sym, subst, ℕ, Bool, IsTrue, ◌⊎◌, inl, inr, Option, Some, None, List, []}
 use Rattle.jac_lang.specs.Syntax.{Application}
 use Rattle.jac_rows.specs.Good.{IsGood}
@@ -28,11 +28,11 @@ use Rattle.jac_plain.specs.Shown.{worlds_of}
 none_in : {P : Type 0} (s : ViewerEntry) (viewer_caches : List ViewerEntry) → viewer_caches ≡ [] → IsOneOf s viewer_caches → P
 none_in s viewer_caches none is = let nothing : ⊥ = subst (λ (xs : List ViewerEntry). IsOneOf s xs) none is in absurd nothing
 
--- where nothing is kept
+-- No cache is kept.
 pub none_settled : (app : Application) (k : KeeperSeen) (viewer_caches : List ViewerEntry) → viewer_caches ≡ [] → AreValidCaches app k viewer_caches
 none_settled app k viewer_caches none = record { each = λ told s is. none_in s viewer_caches none is }
 
--- what was kept for an answer is so for a dispatcher that is whose it was, on the state that it was
+-- A cache that is valid after an answer is valid for the same dispatcher on the same state.
 pub still_kept : (was is : DispatcherOf) (a b : KeeperSeen) (viewer : Option ℕ) (it : PreparedWithCache) → is ≡ was → (IsTrue b.tells → b.state ≡ a.state)
     → KeepsCache b.tells was.app a.state viewer it → KeepsCache b.tells is.app b.state viewer it
 still_kept was is a b viewer it same left kept = record {
@@ -44,7 +44,7 @@ still_kept was is a b viewer it same left kept = record {
       (subst (λ (s : State). IsInvalidationOf was.app s it.prepared.change it.invalidation) (sym (left told)) (kept.affected told));
 }
 
--- fewer are kept, on the same state
+-- Fewer caches are kept, on the same state.
 pub fewer_valid : (app : Application) (a b : KeeperSeen) (before after : List ViewerEntry)
     → (IsTrue b.tells → IsTrue a.tells) → (IsTrue b.tells → b.state ≡ a.state)
     → ((s : ViewerEntry) → IsOneOf s after → IsOneOf s before)
@@ -54,19 +54,19 @@ fewer_valid app a b before after told same fewer valid = record {
       subst (λ (t : State). IsValidCache app (worlds_of t) s.viewer s.cache) (sym (same tells)) (valid.each (told tells) s (fewer s is));
 }
 
--- what is taken out for somebody is what was kept, or nothing
+-- The cache that is taken out for a viewer is valid: it was kept, or it is empty.
 pub taken_valid : (app : Application) (k : KeeperSeen) (viewer_caches : List ViewerEntry) (viewer : Option ℕ) (cache : ViewerCache)
     → ((app : Application) (worlds : Worlds) (viewer : Option ℕ) (cache : ViewerCache) → IsEmptyCache cache → IsValidCache app worlds viewer cache)
     → AreValidCaches app k viewer_caches → IsOneOf (entry_of viewer cache) viewer_caches ⊎ IsEmptyCache cache → IsTrue k.tells → IsValidCache app (worlds_of k.state) viewer cache
 taken_valid app k viewer_caches viewer cache empty valid (inl kept) told = valid.each told (entry_of viewer cache) kept
 taken_valid app k viewer_caches viewer cache empty valid (inr none) told = empty app (worlds_of k.state) viewer cache none
 
--- and where nothing is kept, it has no labels
+-- If no cache was kept, it has no labels.
 pub taken_first : (viewer_caches : List ViewerEntry) (viewer : Option ℕ) (cache : ViewerCache) → HasNoCache viewer viewer_caches → IsOneOf (entry_of viewer cache) viewer_caches ⊎ IsEmptyCache cache → cache.labels ≡ None
 taken_first viewer_caches viewer cache nothing (inl kept) = let never : ⊥ = nothing.none cache kept in absurd never
 taken_first viewer_caches viewer cache nothing (inr empty) = empty.labels
 
--- settled on what stands before a change, and on what stands after it
+-- A cache that is valid on the state before a change, and on the state after it.
 record IsValidTwice (app : Application) (s later : State) (x : ViewerEntry) : Type 0 where
   before : IsValidCache app (worlds_of s) x.viewer x.cache
   behind : IsValidCache app (worlds_of later) x.viewer x.cache
@@ -94,7 +94,7 @@ module _ (moves : (app : Application) (worlds later : Worlds) (viewer : Option �
         behind = moves app (worlds_of s) (worlds_of (applied_if (Some change) s)) x.viewer invalidation was.before x.cache it was.invalidated (affected x.viewer);
       }
 
--- after a change that was stored, or refused
+-- After a change that was stored, or refused.
 module _ (moves : (app : Application) (worlds later : Worlds) (viewer : Option ℕ) (invalidation : Invalidation) (old new : ViewerCache) → IsValidCache app worlds viewer old → Invalidates invalidation viewer old new → IsCovered app worlds later invalidation viewer → IsValidCache app later viewer new)
     (nothing : (app : Application) (worlds : Worlds) (viewer : Option ℕ) (invalidation : Invalidation) → IsCovered app worlds worlds invalidation viewer)
     (app : Application) (a b : KeeperSeen) (change : Option Change) (invalidation : Option Invalidation) (old mid : List ViewerEntry)
@@ -119,7 +119,7 @@ module _ (moves : (app : Application) (worlds later : Worlds) (viewer : Option �
         (affected_twice moves nothing app a.state change invalidation old mid (affected (told tells)) invalidated (valid.each (told tells)) x is).before;
   }
 
--- what was prepared on a state is prepared on the same state
+-- What was prepared on a state is prepared on the same state.
 pub prepared_after : (lazy : Bool) (a b : KeeperSeen) (app : Application) (ask : Ask) (p : Prepared) (tells : Bool) → (IsTrue tells → IsTrue a.tells) → (IsTrue a.tells → a.state ≡ b.state)
     → IsPrepared lazy tells app b.state ask p → IsPrepared lazy tells app a.state ask p
 prepared_after lazy a b app ask p tells told same is = record {
@@ -131,7 +131,7 @@ prepared_after lazy a b app ask p tells told same is = record {
   good = λ on. subst (λ (s : State). IsGood (shapes_of app) s → IsGood (shapes_of app) (applied_if p.change s)) (sym (same (told on))) (is.good on);
 }
 
--- policies were evaluated few times as the answer was prepared, and none as it was stored
+-- Few policies were evaluated while the answer was prepared, and none while it was stored.
 pub few_stored : (lazy told tells : Bool) (app : Application) (s later : State) (viewer : Option ℕ) (viewer_caches : List ViewerEntry) (before mid now : ℕ)
     → (IsTrue tells → IsTrue told) → (IsTrue tells → later ≡ s) → now ≡ mid → AsksFewAtFirst lazy told app s viewer viewer_caches before mid
     → AsksFewAtFirst lazy tells app later viewer viewer_caches before now
@@ -141,7 +141,7 @@ few_stored lazy told tells app s later viewer viewer_caches before mid now telli
       (subst (λ (x : State). AreFewEvaluations app x viewer before mid) (sym (same is)) (bounded.few eager (telling is) nothing));
 }
 
--- ---- for whom something is kept
+-- ---- viewers for whom a cache is kept
 
 pub kept_fewer : (viewer : Option ℕ) (before after : List ViewerEntry) → ((s : ViewerEntry) → IsOneOf s after → IsOneOf s before) → AreKeptFor viewer before after
 kept_fewer viewer before after fewer = record { each = λ s is. inr (s.cache, fewer s is) }
@@ -161,7 +161,7 @@ kept_invalidated viewer (Some invalidation) old new invalidated = record {
       inr (was.before, was.kept);
 }
 
--- after a change that was stored, or refused
+-- After a change that was stored, or refused.
 module _ (viewer : Option ℕ) (invalidation : Option Invalidation) (old mid : List ViewerEntry) (invalidated : AreInvalidatedIf invalidation old mid) where
   pub kept_refused : AreKeptFor viewer old mid
   kept_refused = kept_invalidated viewer invalidation old mid invalidated

@@ -50,29 +50,29 @@ abbrev pub spelling_of : RequestSource → Spelling
 spelling_of ways.Line = spellings.Quoted
 spelling_of (ways.Connection conn close spelling) = spelling
 
--- nothing is kept for this viewer
+-- No cache is kept for this viewer.
 pub record HasNoCache (viewer : Option ℕ) (viewer_caches : List ViewerEntry) : Type 0 where
   pub none : (cache : ViewerCache) → IsOneOf (entry_of viewer cache) viewer_caches → ⊥
 
--- where all labels of a page are settled, the state is told, and nothing was kept for who asks,
--- policies were evaluated few times for the live labels of the state
+-- If all labels of a page are settled, the contents of the state are known, and no cache was kept
+-- for the viewer, few policies were evaluated for the live labels of the state.
 pub record AsksFewAtFirst (lazy tells : Bool) (app : Application) (s : State) (viewer : Option ℕ)
     (viewer_caches : List ViewerEntry) (before now : ℕ) : Type 0 where
   pub few : lazy ≡ false → IsTrue tells → HasNoCache viewer viewer_caches
       → AreFewEvaluations app s viewer before now
 
--- something is kept for this viewer
+-- A cache is kept for this viewer.
 abbrev pub HasCache : Option ℕ → List ViewerEntry → Type 0
 HasCache viewer viewer_caches = (cache : ViewerCache) × IsOneOf (entry_of viewer cache)
     viewer_caches
 
--- what is kept is so for this viewer, or for one for whom something was kept
+-- Each cache is kept for this viewer, or for a viewer for whom one was kept before.
 pub record AreKeptFor (viewer : Option ℕ) (before after : List ViewerEntry) : Type 0 where
   pub each : (s : ViewerEntry) → IsOneOf s after
       → (s.viewer ≡ viewer) ⊎ HasCache s.viewer before
 
--- a request was answered, and its answer stored; these are the line of its reply and what follows
--- the number of its audit line
+-- A request was answered, and its answer stored. The texts are the line of its reply, and what
+-- follows the number in its audit line.
 pub record IsAnswerMade (lazy : Bool) (app : Application) (k : Span RunSeen) (via : RequestSource)
     (ask : Ask)
     (reply audit : List ℕ) : Type 0 where
@@ -96,7 +96,7 @@ pub record IsAnswerMade (lazy : Bool) (app : Application) (k : Span RunSeen) (vi
       ≡ reply_on (spelling_of via) (source_of via) (whole ask (close_of via)) answer
   pub audit_made : audit ≡ audit_rest answer.status ask.viewer answer.shown answer.consulted
 
--- the subject has this answer, and what that leaves
+-- The subject has this answer, and what the answer leaves.
 pub record IsEntryOf (lazy : Bool) (app : Application) (k : Span RunSeen) (subject : LogSubject)
     (answer : Answer) : Type 0 where
   pub formed : IsFormed lazy app subject answer
@@ -109,13 +109,13 @@ pub record IsEntryOf (lazy : Bool) (app : Application) (k : Span RunSeen) (subje
   pub goes_on : IsTrue k.after.keeper.tells → IsStart app k.after.keeper.state
   pub good : IsTrue k.after.keeper.tells → IsGood (shapes_of app) k.before.keeper.state
       → IsGood (shapes_of app) k.after.keeper.state
-  -- what isn't stored leaves the state as it was, and what doesn't store leaves the count of facets
-  -- that were split
+  -- If the answer isn't stored, the state doesn't change. If no facet may be split for it, neither
+  -- does the count of splits.
   pub unstored : IsTrue k.after.keeper.tells → is_stored_for app subject answer ≡ false
       → k.after.keeper.state ≡ k.before.keeper.state
   pub unsplit : may_split app subject answer ≡ false → k.after.splits ≡ k.before.splits
-  -- what is no failure took few evaluations, where nothing was kept for who asks; and who that is
-  -- alone may have something kept that had nothing before
+  -- An answer that isn't a failure took few evaluations if no cache was kept for the viewer. Of the
+  -- viewers who had no cache before, only this one may have one.
   pub bounded : is_failure answer ≡ false
       → AsksFewAtFirst lazy k.after.keeper.tells app k.after.keeper.state
       (viewer_of_subject subject) k.before.viewer_caches k.before.evaluations k.after.evaluations
@@ -123,22 +123,22 @@ pub record IsEntryOf (lazy : Bool) (app : Application) (k : Span RunSeen) (subje
   pub faults : Grew k.before.keeper.faults (if is_fault_answer answer then 1
       else 0) k.after.keeper.faults
 
--- each entry was answered on what the one before it left
+-- Each entry was answered on what the entry before it left.
 abbrev pub AreAnsweredInTurn : Bool → Application → RunSeen → List LogEntry → RunSeen → Type 0
 AreAnsweredInTurn lazy app before [] after = after ≡ before
 AreAnsweredInTurn lazy app before (entry ∷ log) after =
     (between : RunSeen) × IsEntryOf lazy app (span before between) entry.subject entry.answer
     × AreAnsweredInTurn lazy app between log after
 
--- no entry is of this viewer
+-- No entry belongs to this viewer.
 abbrev pub HasNoEntry : Option ℕ → List LogEntry → Type 0
 HasNoEntry viewer [] = ⊤
 HasNoEntry viewer (entry ∷ log) =
     ¬ (viewer_of_subject entry.subject ≡ viewer) × HasNoEntry viewer log
 
--- an entry was answered between these two, after those before it and before the later ones; where
--- all labels of a page are settled, and the state is told to the end, policies were evaluated few
--- times between them for the live labels of the state that it left
+-- An entry was answered in this span, after the entries before it and before the later ones. If all
+-- labels of a page are settled, and the contents of the state are known to the end, few policies
+-- were evaluated in the span for the live labels of the state that it left.
 pub record IsFewInTurn (lazy : Bool) (app : Application) (k own : Span RunSeen)
     (before : List LogEntry) (entry : LogEntry) (later : List LogEntry) : Type 0 where
   pub earlier : AreAnsweredInTurn lazy app k.before before own.before
@@ -148,8 +148,8 @@ pub record IsFewInTurn (lazy : Bool) (app : Application) (k own : Span RunSeen)
       → AreFewEvaluations app own.after.keeper.state (viewer_of_subject entry.subject)
       own.before.evaluations own.after.evaluations
 
--- so was each that is no failure and whose viewer has none before it, where nothing was kept for
--- that viewer at the begin
+-- This holds for each entry that isn't a failure and whose viewer has no entry before it, if no
+-- cache was kept for that viewer at the beginning.
 pub record AreFewAtFirst (lazy : Bool) (app : Application) (k : Span RunSeen) (log : List LogEntry)
     : Type 0 where
   pub each : (before later : List LogEntry) (entry : LogEntry) → log ≡ before ++ entry ∷ later
@@ -157,7 +157,7 @@ pub record AreFewAtFirst (lazy : Bool) (app : Application) (k : Span RunSeen) (l
       → HasNoEntry (viewer_of_subject entry.subject) before → is_failure entry.answer ≡ false
       → (own : Span RunSeen) × IsFewInTurn lazy app k own before entry later
 
--- some subjects were answered one after another
+-- Some subjects were answered one after another.
 pub record AreEntries (lazy : Bool) (app : Application) (k : Span RunSeen) (log : List LogEntry)
     : Type 0 where
   pub formed : AreFormed lazy app log
@@ -176,14 +176,15 @@ pub record AreEntries (lazy : Bool) (app : Application) (k : Span RunSeen) (log 
   pub few : AreFewAtFirst lazy app k log
   pub faults : Grew k.before.keeper.faults (faults_in log) k.after.keeper.faults
 
--- what is sent for what is refused with this status, unless memory runs out
+-- What is sent for a request that is refused with this status, unless the dispatcher is out of
+-- memory.
 abbrev pub IsRefusalSent : Spelling → ℕ → ℕ → Sent → Type 0
 IsRefusalSent spelling c status sent =
     (sent ≡ Made (spelled_bytes spelling c (reply_bytes status None None [] false false true))
     (audit_rest status None None None) false)
     ⊎ (sent ≡ fixed_500)
 
--- what is kept for somebody is settled for them, but for what is stale, on what the keeper tells
+-- If the contents of the keeper are known, each viewer's cache is valid on them.
 pub record AreValidCaches (app : Application) (k : KeeperSeen)
     (viewer_caches : List ViewerEntry) : Type 0 where
   pub each : IsTrue k.tells → (s : ViewerEntry) → IsOneOf s viewer_caches
@@ -193,8 +194,8 @@ abbrev pub AreInvalidatedIf : Option Invalidation → List ViewerEntry → List 
 AreInvalidatedIf None old new = new ≡ old
 AreInvalidatedIf (Some invalidation) old new = AreInvalidated invalidation old new
 
--- how an application answers, whose sessions these are; the flag says that a GET's page resolves
--- only what it consults
+-- How an application with these sessions answers. The flag says that a GET's page resolves only
+-- what it consults.
 abbrev pub answer_spec_of : Bool → Application → List Session → AnswerSpec
 answer_spec_of lazy app sessions = record {
   wants = request_in app sessions;
@@ -205,9 +206,9 @@ answer_spec_of lazy app sessions = record {
   entries = AreEntries lazy app;
 }
 
--- whose a dispatcher is: an application's, with its sessions, whether a GET's page resolves only
--- what it consults, and the references to its keeper and to the counts of facets that were split
--- and of policies that were evaluated
+-- What a dispatcher belongs to: an application, its sessions, whether a GET's page resolves only
+-- what it consults, and the references to its keeper and to the counts of split facets and of
+-- evaluated policies.
 pub record DispatcherOf : Type 0 where
   pub app : Application
   pub sessions : List Session
@@ -219,7 +220,7 @@ pub record DispatcherOf : Type 0 where
 abbrev pub answer_spec : DispatcherOf → AnswerSpec
 answer_spec of = answer_spec_of of.lazy of.app of.sessions
 
--- what contracts see of such a dispatcher
+-- What contracts see of such a dispatcher.
 abbrev pub dispatcher_of : DispatcherOf → KeeperSeen → RunCounts → List ViewerEntry → DispatcherSeen
     DispatcherOf
 dispatcher_of of keeper counts viewer_caches = record {

@@ -9,16 +9,16 @@ use Rattle.jac_route.specs.Sessions.{session_viewer}
 use Rattle.jac_route.specs.declared.sessions.Session.{Session}
 use Rattle.jac_replies.specs.declared.answer.Ask.{Ask}
 
--- a number that is no id of the viewer's model is nobody's
+-- A number that isn't an id of the viewer's model gives no viewer.
 abbrev pub viewer_in : Application → Option ℕ → Option ℕ
 viewer_in app None = None
 viewer_in app (Some number) = viewer_of app number
 
--- the form body, which only a POST has
+-- The form body, which only a POST has.
 abbrev pub form_body : List ℕ → List ℕ → List ℕ
 form_body method body = if bytes_eq method (codes "POST") then body else []
 
--- the pairs of the query, and then those of the form body
+-- The pairs of the query, followed by those of the form body.
 abbrev pub ask_by : Option ℕ → List ℕ → List ℕ → List ℕ → List ℕ → Ask
 ask_by viewer method path query body = record {
   viewer = viewer;
@@ -27,11 +27,11 @@ ask_by viewer method path query body = record {
   pairs = pairs_in query ++ pairs_in (form_body method body);
 }
 
--- the request of an `ask` line
+-- The request of an `ask` line.
 abbrev pub ask_in : Application → Option ℕ → List ℕ → List ℕ → List ℕ → List ℕ → Ask
 ask_in app viewer method path query body = ask_by (viewer_in app viewer) method path query body
 
--- the request of a connection: who looks is told by the session of its token
+-- The request of a connection. Its viewer is that of the session with its token.
 abbrev pub request_in : Application → List Session → Request → Ask
 request_in app sessions request = ask_by (session_viewer sessions request.token app) request.method
     request.path request.query request.body

@@ -20,11 +20,11 @@ use Rattle.jac_serve_events.specs.AnswerSpec.{LogSubject, LogEntry, is_failure, 
 use Rattle.jac_dispatch.specs.Asked.{ask_in, request_in}
 use Rattle.jac_plain.specs.Shown.{worlds_of}
 
--- how an application's requests are understood
+-- How the requests of an application are understood.
 abbrev pub application_hearing : Application → List Session → Hearing Ask Answer
 application_hearing app sessions = hearing_by (request_in app sessions) (ask_in app)
 
--- the answer to what is refused
+-- The answer to a refused request.
 abbrev pub refused_with : ℕ → Answer
 refused_with status =
     record {
@@ -36,13 +36,13 @@ refused_with status =
       consulted = None;
     }
 
--- what stands in for an answer where memory ran out or the keeper failed
+-- The answer that is given if the dispatcher was out of memory or the keeper failed.
 abbrev pub HasFailed : Answer → Type 0
 HasFailed answer = (answer ≡ refusal 500 None) ⊎ (answer ≡ refusal 503 None)
 
--- the subject is answered in these worlds, or it was met by want of memory or a fault of the
--- keeper, which is asked for requests alone. The flag says that a GET's page resolves only what it
--- consults
+-- The subject is answered in these worlds, or the dispatcher was out of memory or the keeper
+-- failed. The keeper is only used for requests. The flag says that a GET's page resolves only what
+-- it consults.
 abbrev pub IsAnswer : Bool → Application → Worlds → LogSubject → Answer → Type 0
 IsAnswer lazy app worlds (whole ask closes) answer =
     HasFailed answer ⊎ IsAnswerTo lazy app worlds ask answer
@@ -50,34 +50,34 @@ IsAnswer lazy app worlds (refused status) answer =
     (answer ≡ refusal 500 None) ⊎ (answer ≡ refused_with status)
 IsAnswer lazy app worlds broken answer = answer ≡ refusal 500 None
 
--- where nothing is told of worlds: each refusal has its cause, and each page is one that a run made
+-- What is known without any worlds: each refusal has its cause, and each page was made by some run.
 abbrev pub IsFormed : Bool → Application → LogSubject → Answer → Type 0
 IsFormed lazy app (whole ask closes) answer = HasFailed answer ⊎ HasForm lazy app ask answer
 IsFormed lazy app (refused status) answer =
     (answer ≡ refusal 500 None) ⊎ (answer ≡ refused_with status)
 IsFormed lazy app broken answer = answer ≡ refusal 500 None
 
--- a change comes with the answer to the subject
+-- A change comes with the answer to the subject.
 abbrev pub is_stored_for : Application → LogSubject → Answer → Bool
 is_stored_for app (whole ask closes) answer = is_stored app ask answer
 is_stored_for app (refused status) answer = false
 is_stored_for app broken answer = false
 
--- facets may be split for the answer to the subject: it is stored, or stands for a failure where
--- the request finds a view that stores
+-- Facets may be split for the answer to the subject: it is stored, or it is a failure and the
+-- request finds a view that stores.
 abbrev pub may_split : Application → LogSubject → Answer → Bool
 may_split app (whole ask closes) answer =
     is_stored app ask answer || (is_failure answer && stores app ask)
 may_split app (refused status) answer = false
 may_split app broken answer = false
 
--- none of the log's answers came with a change
+-- None of the log's answers came with a change.
 abbrev pub is_unstored : Application → List LogEntry → Bool
 is_unstored app [] = true
 is_unstored app (entry ∷ log) =
     not (is_stored_for app entry.subject entry.answer) && is_unstored app log
 
--- for none of them a facet may be split
+-- No facet may be split for any of the answers.
 abbrev pub is_unsplit : Application → List LogEntry → Bool
 is_unsplit app [] = true
 is_unsplit app (entry ∷ log) = not (may_split app entry.subject entry.answer) && is_unsplit app log
@@ -87,25 +87,25 @@ left_of w app (whole ask closes) answer t = world_left w app ask answer t
 left_of w app (refused status) answer t = t
 left_of w app broken answer t = t
 
--- what an entry leaves of the world of an assignment
+-- The world of an assignment after an entry.
 abbrev pub after_entry : (ℕ → Bool) → Application → LogEntry → PlainState → PlainState
 after_entry w app entry t = left_of w app entry.subject entry.answer t
 
--- what a log leaves of it
+-- The world of an assignment after a log.
 abbrev pub after_log : (ℕ → Bool) → Application → List LogEntry → PlainState → PlainState
 after_log w app [] t = t
 after_log w app (entry ∷ log) t = after_log w app log (after_entry w app entry t)
 
--- each entry, in the worlds that the entries before it leave
+-- Each entry is answered in the worlds that the entries before it leave.
 abbrev pub AreAnswered : Bool → Application → Worlds → List LogEntry → Type 0
 AreAnswered lazy app worlds [] = ⊤
 AreAnswered lazy app worlds (entry ∷ log) =
     IsAnswer lazy app worlds entry.subject entry.answer
     × AreAnswered lazy app (λ w. after_entry w app entry (worlds w)) log
 
--- the log answers what the events bring, each in the worlds before it; and under every assignment
--- the state at the end shows the world that the log leaves of what the start shows; a good start
--- stays good
+-- The log answers what the events bring, each in the worlds before it. Under every assignment, the
+-- state at the end shows the world that the log leaves of what the start shows. A good start stays
+-- good.
 pub record Serves (lazy early : Bool) (app : Application) (sessions : List Session) (start : State)
     (events : List Event) (log : List LogEntry) (finish : State) : Type 0 where
   pub subjects : IsHeardBy early (application_hearing app sessions) events log
@@ -119,11 +119,11 @@ AreFormed lazy app [] = ⊤
 AreFormed lazy app (entry ∷ log) =
     IsFormed lazy app entry.subject entry.answer × AreFormed lazy app log
 
--- the answer stands for a fault of the keeper: 503 without a page
+-- The answer to a fault of the keeper: 503 without a page.
 abbrev pub is_fault_answer : Answer → Bool
 is_fault_answer answer = is_none answer.shown && answer.status == 503
 
--- how many entries do
+-- The number of entries with such an answer.
 abbrev pub faults_in : List LogEntry → ℕ
 faults_in [] = 0
 faults_in (entry ∷ log) = (if is_fault_answer entry.answer then 1 else 0) + faults_in log

@@ -6,7 +6,7 @@ use Rattle.jac_serve_events.specs.RunSeen.{run_counts}
 use Rattle.jac_dispatch.specs.Answered.{DispatcherOf, dispatcher_of}
 use Rattle.jac_dispatch.specs.declared.handler.AppDispatcher.{AppDispatcher}
 
--- whose a dispatcher is
+-- What a dispatcher belongs to.
 abbrev pub whose : {K L M : Type 0} → AppDispatcher K L M → DispatcherOf
 whose dispatcher = record {
   app = application_of dispatcher.service.now;
@@ -17,7 +17,7 @@ whose dispatcher = record {
   evaluations = dispatcher.evaluations.ghost_name;
 }
 
--- what is seen of it, where this is seen of its keeper
+-- What contracts see of a dispatcher, by what they see of its keeper.
 abbrev pub dispatcher_seen : {K L M : Type 0} → (K → KeeperSeen) → AppDispatcher K L M →
     DispatcherSeen DispatcherOf
 dispatcher_seen seen dispatcher = dispatcher_of (whose dispatcher) (seen dispatcher.keeper.now)

@@ -101,8 +101,8 @@ fn make_lines(
 
 /// Answers one request and stores its change. The lines of its reply are made first, so nothing is
 /// stored without them. The viewer's cache is kept, and what the change may affect in it is settled
-/// again. A lazily made page neither uses nor changes it. After a fault of the keeper all caches
-/// are dropped, since the store may hold something else then.
+/// again. A page that is made lazily neither uses nor changes it. After a fault of the keeper all
+/// caches are dropped, because the store may hold something else then.
 pub fn answer_ask<K: Keeper, L: Ledger, M: Ledger>(
     dispatcher: &mut AppDispatcher<'_, '_, '_, '_, '_, '_, K, L, M>,
     via: RequestSource,
@@ -148,7 +148,7 @@ pub fn answer_ask<K: Keeper, L: Ledger, M: Ledger>(
     }
 }
 
-// The same, whatever is kept then.
+// The same, but the caches aren't dropped after a fault of the keeper.
 fn answer_over_caches<K: Keeper, L: Ledger, M: Ledger>(
     dispatcher: &mut AppDispatcher<'_, '_, '_, '_, '_, '_, K, L, M>,
     via: RequestSource,
@@ -195,7 +195,8 @@ fn answer_over_caches<K: Keeper, L: Ledger, M: Ledger>(
     Ok(lines)
 }
 
-/// What answers the request, over what is kept for who asks, which is taken out. Nothing is stored.
+/// Prepares the answer to the request with the viewer's cache, which is taken out. Nothing is
+/// stored.
 pub fn ready_answer<K: Keeper, L: Ledger, M: Ledger>(
     dispatcher: &mut AppDispatcher<'_, '_, '_, '_, '_, '_, K, L, M>,
     ask: &Ask,
@@ -245,7 +246,7 @@ pub fn ready_answer<K: Keeper, L: Ledger, M: Ledger>(
     Ok(ready)
 }
 
-// Takes out what is kept for the viewer, or begins with nothing.
+// Takes out the viewer's cache, or begins with an empty one.
 fn take_cache(alloc: Global, viewer_caches: &mut ViewerCaches, viewer: &Option<Id>) -> ViewerCache
     ensures taken { IsOneOf (entry_of viewer.now result) viewer_caches.old ⊎ IsEmptyCache result }
     ensures left { (s : ViewerEntry) → IsOneOf s viewer_caches.new → IsOneOf s viewer_caches.old }
@@ -256,8 +257,8 @@ fn take_cache(alloc: Global, viewer_caches: &mut ViewerCaches, viewer: &Option<I
     }
 }
 
-/// Stores the prepared change. Other viewers' caches are valid before it and after it. The asking
-/// viewer's cache is put back if all went well.
+/// Stores the prepared change. Other viewers' caches are valid before it and after it. The cache of
+/// the viewer who made the request is put back if all went well.
 pub fn store_answer<K: Keeper, L: Ledger, M: Ledger>(
     dispatcher: &mut AppDispatcher<'_, '_, '_, '_, '_, '_, K, L, M>,
     ask: &Ask,
@@ -307,7 +308,7 @@ pub fn store_answer<K: Keeper, L: Ledger, M: Ledger>(
     }
 }
 
-// Makes stale for each viewer what may be affected.
+// Marks as stale, for each viewer, what may be affected.
 fn invalidate_by(
     alloc: Global,
     viewer_caches: &mut ViewerCaches,

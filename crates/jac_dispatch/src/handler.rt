@@ -1,4 +1,5 @@
-//! A dispatcher: an application over a keeper, with what is counted and allocated as it answers.
+//! A dispatcher: an application over a keeper, with what it counts and allocates to answer
+//! requests.
 ghost use Rattle.std.specs.Prelude.{◌≡◌, ◌<◌, [], false, true, IfOk, IfSome, IsTrue, OnErr, None};
 ghost use Rattle.jac_keep.specs.Cause.{HasCause};
 ghost use Rattle.jac_http.specs.Requests.{IsTaken};
@@ -32,23 +33,23 @@ use jac_world::Steps;
 use std::alloc::Global;
 use std::sync::ledger::Ledger;
 
-/// An application over a keeper. It is made once a command, and lent down.
+/// An application over a keeper. It is made once for each command, and passed on by reference.
 pub struct AppDispatcher<'k, 's, 'e, 'a, 'b, 't, K: Keeper, L: Ledger, M: Ledger> {
     pub keeper: &'k mut K,
-    /// The facets that were split.
+    /// Counts the facets that are split.
     pub splits: &'s mut Steps<L>,
-    /// The policies that were asked.
+    /// Counts the evaluations of policies.
     pub evaluations: &'e mut Steps<M>,
     pub alloc: Global,
-    /// How what is sent on a connection is spelled.
+    /// The form in which a reply on a connection is written.
     pub spelling: Spelling,
     pub service: &'a Service,
     pub sessions: &'b Sessions,
-    /// A GET's page resolves only what it consults.
+    /// Whether a GET's page resolves only what it consults.
     pub lazy: bool,
     /// The caches of viewers.
     pub viewer_caches: &'t mut ViewerCaches,
-    /// The labels of the last audit lines, as texts.
+    /// The texts of the labels in the last audit lines.
     pub label_texts: &'t mut LabelTexts,
 }
 
@@ -137,7 +138,7 @@ impl<K: Keeper, L: Ledger, M: Ledger> Dispatch for AppDispatcher<'_, '_, '_, '_,
     }
 }
 
-// The next thing that a hub gives, which is spelled as the dispatcher says.
+// The next output of a hub, in the form that the dispatcher uses.
 fn ask_hub<K: Keeper, L: Ledger, M: Ledger>(
     dispatcher: &mut AppDispatcher<'_, '_, '_, '_, '_, '_, K, L, M>,
     hub: &mut Hub,
@@ -280,7 +281,7 @@ fn made(lines: AnswerLines) -> Sent
     }
 }
 
-// What is sent for what is refused.
+// What is sent for a refused request.
 fn answer_refused(alloc: Global, spelling: Spelling, conn: u32, status: u16) -> Sent
     requires refusal { is_refusal status ≡ true }
     ensures { IsRefusalSent spelling conn status result }

@@ -1,4 +1,4 @@
-//! What answers a request that was heard, over a keeper.
+//! Answers each request by `jac_engine` over a keeper, and keeps the caches of viewers valid.
 #![tactic(auto)]
 
 mod answer;
