@@ -40,7 +40,7 @@ length_overlaid : (k : ℕ) (c : List Alteration) (ts : List (List Row)) → len
 length_overlaid k c [] = refl
 length_overlaid k c (t ∷ ts) = ap suc (length_overlaid (k + 1) c ts)
 
--- the page of the run is the interpreter's
+-- The page of the run is the interpreter's.
 ran_page : (app : Application) (v : View) (ask : Ask) (place n : ℕ) (s : State) (labels : List ℕ) → slice_get app.views place ≡ Some v → n ≡ s.number
     → page_of (ran_by (shown_by labels) app v ask n s).pieces ≡ page (shown_by labels) app (project_at (shown_by labels) s) (visit_of app ask place)
 ran_page app v ask place n s labels is_view is_number = rw (is_view, is_number) refl
@@ -49,19 +49,20 @@ ran_after : (w : ℕ → Bool) (app : Application) (v : View) (ask : Ask) (place
     → record { tables = (ran_by w app v ask n s).tables; number = n + 1 } ≡ after w app (project_at w s) (visit_of app ask place)
 ran_after w app v ask place n s is_view is_post is_number = rw (is_view, is_post, is_view, is_number) refl
 
--- the page of a view of GET
+-- The page of a view for GET.
 pub page_shown : (app : Application) (v : View) (ask : Ask) (place n : ℕ) (s : State) (labels : List ℕ) (p : Page) → slice_get app.views place ≡ Some v → is_served_body app.models verbs.Get v.body ≡ true
     → n ≡ s.number → IsStart app s → ShowsView app v ask n s labels p
     → page_answer labels p ≡ page_answer labels (page (shown_by labels) app (project_at (shown_by labels) s) (visit_of app ask place))
 page_shown app v ask place n s labels p is_view served is_number start shows =
     ap (page_answer labels) (shows.page n (sound_now s n start.sound is_number) (may_show n app v ask n s served) ∙ ran_page app v ask place n s labels is_view is_number)
 
--- the request as it is bound to the parameters of its view
+-- The request, bound to the parameters of its view.
 pub visit_bound : (app : Application) (v : View) (ask : Ask) (place : ℕ) (env : List Binding) → slice_get app.views place ≡ Some v
     → env ≡ parameters app.models v.params ask.pairs → record { view = place; env = env; viewer = ask.viewer } ≡ visit_of app ask place
 visit_bound app v ask place env is_view bound = rw (is_view, bound) refl
 
--- a page that is the interpreter's whatever is shown beside what was consulted, under steady labels
+-- A page that is the interpreter's whatever is shown besides what was consulted, under steady
+-- labels.
 pub lazily_shown : (app : Application) (worlds : Worlds) (visit : Visit) (labels consulted : List ℕ) (p : Page) (answer : Answer) → answer ≡ lazy_answer labels consulted p
     → IsSteady app worlds visit.viewer consulted labels → IsPageOf app worlds consulted labels visit p → IsLazyPage app worlds visit answer
 lazily_shown app worlds visit labels consulted p answer is steady shows = record {
@@ -71,14 +72,14 @@ lazily_shown app worlds visit labels consulted p answer is steady shows = record
   made = λ w agree. is ∙ ap (lazy_answer labels consulted) (shows.each w agree);
 }
 
--- the page of a view of POST
+-- The page of a view for POST.
 pub page_stored : (app : Application) (v : View) (ask : Ask) (place n : ℕ) (s : State) (labels : List ℕ) (p : Page) → slice_get app.views place ≡ Some v → is_served_body app.models verbs.Post v.body ≡ true
     → n ≡ s.number → n < 2 ^ 40 → IsStart app s → length app.models ≤ 64 → ShowsView app v ask n s labels p
     → page_answer labels p ≡ page_answer labels (page (shown_by labels) app (project_at (shown_by labels) s) (visit_of app ask place))
 page_stored app v ask place n s labels p is_view served is_number few start most shows =
     ap (page_answer labels) (shows.page (n + 1) (sound_next s n start.sound is_number few) (may_store app v ask n s served start most is_number few) ∙ ran_page app v ask place n s labels is_view is_number)
 
--- what the interpreter leaves has wide ids in nested models alone
+-- In what the interpreter leaves, only nested models have wide ids.
 flat_left : (w : ℕ → Bool) (app : Application) (v : View) (ask : Ask) (place n : ℕ) (s : State) → slice_get app.views place ≡ Some v → is_served_body app.models verbs.Post v.body ≡ true
     → n ≡ s.number → n < 2 ^ 40 → IsStart app s → length app.models ≤ 64 → AreFlat app.models (after w app (project_at w s) (visit_of app ask place)).tables
 flat_left w app v ask place n s is_view served is_number few start most =
@@ -87,7 +88,7 @@ flat_left w app v ask place n s is_view served is_number few start most =
     flat_after w app (project_at w s) (visit_of app ask place) (omega (arith, least)) (omega (arith, is_number, few)) most
     (rw is_view keeps.sited) (rw is_view keeps.placed) (ordered w s start.sound) (start.flat w)
 
--- the change of a run stores what the interpreter leaves, in every world
+-- The change of a run stores what the interpreter leaves, in every world.
 pub change_stored : (app : Application) (v : View) (ask : Ask) (place n : ℕ) (s : State) (change : Change) → slice_get app.views place ≡ Some v → v.method ≡ verbs.Post
     → is_served_body app.models verbs.Post v.body ≡ true → n ≡ s.number → n < 2 ^ 40 → IsStart app s → length app.models ≤ 64 → change.number ≡ n + 1 → LeavesTables app v ask n s (changed_state change s).tables
     → Stores app s (visit_of app ask place) change
@@ -107,7 +108,8 @@ change_stored app v ask place n s change is_view is_post served is_number few st
       };
     }
 
--- labels that are settled on the state after a change are so in the worlds that the request leaves
+-- Labels that are settled on the state after a change are settled in the worlds that the request
+-- leaves.
 pub settled_after : (app : Application) (s : State) (ask : Ask) (place : ℕ) (change : Change) (labels : List ℕ) → Stores app s (visit_of app ask place) change
     → IsSettled app (worlds_of (changed_state change s)) ask.viewer labels → IsSettled app (worlds_after app (worlds_of s) (visit_of app ask place)) ask.viewer labels
 settled_after app s ask place change labels stores settled =
@@ -116,7 +118,7 @@ settled_after app s ask place change labels stores settled =
 live_numbered : (app : Application) (s : State) (number k : ℕ) → IsLiveLabel app (worlds_of s) k → IsLiveLabel app (worlds_of (record s { number = number })) k
 live_numbered app s number k live = record { group = live.group; seen_by = live.seen_by; stands = live.stands }
 
--- what is affected depends on the tables alone, and not on the next number
+-- What is affected depends only on the tables, and not on the next number.
 covered_numbered : (app : Application) (s later : State) (number : ℕ) (invalidation : Invalidation) → AreCovered app s later invalidation → AreCovered app s (record later { number = number }) invalidation
 covered_numbered app s later number invalidation covered viewer = record {
   living = λ k free.
@@ -125,7 +127,7 @@ covered_numbered app s later number invalidation covered viewer = record {
   allowed = λ k free w. (covered viewer).allowed k free w;
 }
 
--- and so do the labels that are settled, and what was settled for somebody
+-- So do the labels that are settled, and the viewer's cache.
 pub settles_view : (app : Application) (viewer : Option ℕ) (old later : State) (labels : List ℕ) (cache : ViewerCache) (invalidation : Invalidation)
     → ((app : Application) (s t : State) (viewer : Option ℕ) (labels : List ℕ) → s.tables ≡ t.tables → IsSettled app (worlds_of s) viewer labels → IsSettled app (worlds_of t) viewer labels)
     → ((app : Application) (s t : State) (viewer : Option ℕ) (cache : ViewerCache) → s.tables ≡ t.tables → IsValidCache app (worlds_of s) viewer cache → IsValidCache app (worlds_of t) viewer cache)

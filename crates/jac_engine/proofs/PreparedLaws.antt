@@ -28,7 +28,7 @@ use Rattle.jac_replies.specs.declared.answer.Ask.{Ask}
 use Rattle.jac_engine.specs.declared.answer.Prepared.{Prepared}
 use Rattle.jac_plain.specs.Shown.{worlds_of}
 
--- the answer is a page, made under these labels
+-- The answer is a page, made under these labels.
 record HasLabels (answer : Answer) : Type 0 where
   labels : List ℕ
   shown : answer.shown ≡ Some labels
@@ -50,7 +50,7 @@ form_for lazy founds.NoRoute tells app s ask p h = ap (λ (q : Prepared). q.answ
 form_for lazy (founds.WrongMethod allow) tells app s ask p h = ap (λ (q : Prepared). q.answer) h
 form_for lazy (founds.View n pairs) tells app s ask p h = form_by lazy (method_in (slice_get app.views n)) tells app s (visit_of app (asked_with pairs ask) n) p h
 
--- a page of this method is stored where this is a POST
+-- A page of this method is stored if the method is POST.
 stored_page : (app : Application) (n : ℕ) (pairs : List Pair) (v : Verb) (p : Prepared) → method_in (slice_get app.views n) ≡ v → (page : HasLabels p.answer)
     → is_stored_by (founds.View n pairs) app p.answer.shown ≡ is_post v
 stored_page app n pairs v p is page =
@@ -82,7 +82,7 @@ answered_for lazy founds.NoRoute tells app s ask p h told = ap (λ (q : Prepared
 answered_for lazy (founds.WrongMethod allow) tells app s ask p h told = ap (λ (q : Prepared). q.answer) h
 answered_for lazy (founds.View n pairs) tells app s ask p h told = answered_by lazy (method_in (slice_get app.views n)) tells app s (visit_of app (asked_with pairs ask) n) p h told
 
--- what a page leaves is what its view leaves
+-- What a page leaves is what its view leaves.
 left_page : (w : ℕ → Bool) (app : Application) (ask : Ask) (n : ℕ) (pairs : List Pair) (p : Prepared) (t : PlainState) (page : HasLabels p.answer)
     → left_by (founds.View n pairs) w app ask p.answer.shown t ≡ after w app t (visit_of app (asked_with pairs ask) n)
 left_page w app ask n pairs p t page = ap (λ (o : Option (List ℕ)). left_by (founds.View n pairs) w app ask o t) page.shown
@@ -139,7 +139,7 @@ good_for lazy founds.NoRoute tells app s ask p served few h told good = rw h goo
 good_for lazy (founds.WrongMethod allow) tells app s ask p served few h told good = rw h good
 good_for lazy (founds.View n pairs) tells app s ask p served few h told good = good_by lazy (method_in (slice_get app.views n)) tells app s ask n pairs p served few h told good
 
--- what was prepared by what the request finds answers it
+-- What was prepared for what the request finds answers the request.
 pub is_prepared : (lazy tells : Bool) (app : Application) (s : State) (ask : Ask) (p : Prepared) → are_served app ≡ true → length app.models ≤ 64 → (IsTrue tells → IsStart app s)
     → IsPreparedFor lazy (found app ask.method ask.path) tells app s ask p → IsPrepared lazy tells app s ask p
 is_prepared lazy tells app s ask p served few start h =
@@ -153,15 +153,15 @@ is_prepared lazy tells app s ask p served few start h =
       good = good_for lazy f tells app s ask p served few h;
     }
 
--- no policy was asked
+-- No policy was evaluated.
 pub asks_none : (lazy tells : Bool) (app : Application) (s : State) (viewer : Option ℕ) (settled : Option (List ℕ)) (now : ℕ) (p : Prepared) → AsksFew lazy tells app s viewer settled now now p
 asks_none lazy tells app s viewer settled now p = record { few = λ eager told none. none_asked app (applied_if p.change s) viewer now }
 
--- where a page resolves only what it consults, nothing is said
+-- If a page resolves only what it consults, the bound says nothing.
 pub asks_lazily : (lazy tells : Bool) (app : Application) (s : State) (viewer : Option ℕ) (settled : Option (List ℕ)) (before now : ℕ) (p : Prepared) → lazy ≡ true → AsksFew lazy tells app s viewer settled before now p
 asks_lazily lazy tells app s viewer settled before now p is = record { few = λ eager told none. absurd (let e : true ≡ false = sym is ∙ eager in cc) }
 
--- and where it doesn't, what is said of it is said in either manner
+-- If it resolves all labels, the bound holds in either manner.
 pub asks_eagerly : (lazy tells : Bool) (app : Application) (s : State) (viewer : Option ℕ) (settled : Option (List ℕ)) (before now : ℕ) (p : Prepared) → AsksFew false tells app s viewer settled before now p →
     AsksFew lazy tells app s viewer settled before now p
 asks_eagerly lazy tells app s viewer settled before now p asks = record { few = λ eager told none. asks.few refl told none }

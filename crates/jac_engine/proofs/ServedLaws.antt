@@ -1,4 +1,5 @@
--- What the views of a served application keep: what they ask of a run, and where their creates stand.
+-- What the views of a served application satisfy: what they require of a run, and where their
+-- creates are.
 use Rattle.std.proofs.Common.{◌≡◌, refl, arith, zero, suc, ℕ, ◌<◌, ◌^◌, ◌&&◌, nat_lt, Bool, true, false, List, [], ◌∷◌, Option, Some, None}
 use Rattle.std.specs.Prelude.{slice_get, is_some}
 use Rattle.std.proofs.lemmas.Bool.{and_parts, and_from, ltb-true}
@@ -17,7 +18,7 @@ use Rattle.jac_engine.proofs.SiteLaws.{are_below, below, below_parts, apart}
 use Rattle.jac_lang.specs.Untemplated.{is_untemplated, are_untemplated}
 
 mutual
-  -- what creates at one of 64 sites runs while there are numbers
+  -- Statements whose creates are at the 64 sites may run while there are numbers left.
   writing_runs : (n : ℕ) (s : Statement) → 0 < n → n < 2 ^ 40 → is_untemplated s ≡ true → is_sited s ≡ true → IsRunnable n s
   writing_runs n (Statement.put e) some few t h = tt
   writing_runs n (Statement.escape e) some few t h = tt
@@ -46,7 +47,7 @@ mutual
       (writing_runs n s some few free.0 sited.0, all_writing_run n rest some few free.1 sited.1)
 
 mutual
-  -- what creates nothing stands at no site
+  -- A statement that creates nothing has no site that isn't allowed.
   reading_sited : (s : Statement) → is_reading s ≡ true → is_sited s ≡ true
   reading_sited (Statement.put e) h = refl
   reading_sited (Statement.escape e) h = refl
@@ -71,7 +72,7 @@ mutual
       and_from (is_sited s) (are_sited rest) (reading_sited s parts.0) (all_reading_sited rest parts.1)
 
 mutual
-  -- and so wherever it may
+  -- So it has no create in a wrong place.
   reading_placed : (models : List Entity) (loops : Loops) (s : Statement) → is_reading s ≡ true → is_placed models loops s ≡ true
   reading_placed models loops (Statement.put e) h = refl
   reading_placed models loops (Statement.escape e) h = refl
@@ -121,7 +122,7 @@ mutual
       let parts = below_parts (sites_in s) (sites rest) h in
       and_from (is_sited s) (are_sited rest) (below_sited s parts.0) (all_below_sited rest parts.1)
 
--- what a body of a POST keeps
+-- What the body of a view for POST satisfies.
 pub record IsStoring (models : List Entity) (body : Statements) : Type 0 where
   pub expanded : are_untemplated body ≡ true
   pub sited : are_sited body ≡ true
@@ -149,7 +150,7 @@ body_among models (x ∷ xs) zero v h e =
     rw (← same) (and_parts (is_served_view models x) (are_served_views models xs) h).0
 body_among models (x ∷ xs) (suc n) v h e = body_among models xs n v (and_parts (is_served_view models x) (are_served_views models xs) h).1 e
 
--- the body of a view of a served application
+-- The body of a view of a served application.
 pub served_body : (app : Application) (n : ℕ) (v : View) → are_served app ≡ true → slice_get app.views n ≡ Some v → is_served_body app.models v.method v.body ≡ true
 served_body app n v h e = body_among app.models app.views n v h e
 
@@ -161,7 +162,7 @@ placed_body : (models : List Entity) (v : Verb) (body : Statements) → is_serve
 placed_body models verbs.Get body h = all_reading_placed models Loops.none body (and_parts (are_untemplated body) (are_reading body) h).1
 placed_body models verbs.Post body h = (storing models body h).placed
 
--- the creates of a view of a served application stand at sites below 64, and where they may
+-- The creates of a view of a served application are at sites below 64, and in allowed places.
 pub sited_view : (app : Application) (n : ℕ) (found : Option View) → are_served app ≡ true → slice_get app.views n ≡ found → are_sited (body_in found) ≡ true
 sited_view app n None h is = refl
 sited_view app n (Some v) h is = sited_body app.models v.method v.body (served_body app n v h is)

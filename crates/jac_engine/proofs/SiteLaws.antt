@@ -1,4 +1,4 @@
--- The sites of creates, which rise: each is its own, and one of 64.
+-- The sites of creates, in rising order. Each is different from the others, and one of 64.
 use Rattle.std.proofs.Common.{◌≡◌, refl, arith, ℕ, ◌+◌, ◌<◌, ◌≤◌, ◌==◌, ◌&&◌, ◌||◌, not, nat_le, nat_lt, Bool, true, false, if◌then◌else◌, List, [], ◌∷◌, ◌++◌, None}
 use Rattle.std.specs.Prelude.{is_some}
 use Rattle.std.proofs.lemmas.Bool.{and_parts, and_from}
@@ -30,7 +30,7 @@ neither_one : (a b : Bool) → a ≡ false → b ≡ false → (a || b) ≡ fals
 neither_one true b h g = cc
 neither_one false b h g = g
 
--- a lesser site isn't among them
+-- A lesser site isn't among them.
 lesser : (next site : ℕ) (xs : List ℕ) → site < next → Rise next xs → is_among site xs ≡ false
 lesser next site [] less h = refl
 lesser next site (x ∷ xs) less h =
@@ -41,7 +41,7 @@ both : (a b : Bool) → a ≡ false → b ≡ true → (not a && b) ≡ true
 both true b h g = cc
 both false b h g = g
 
--- sites that rise are pairwise different
+-- Sites in rising order are pairwise different.
 pub apart : (next : ℕ) (xs : List ℕ) → Rise next xs → are_apart xs ≡ true
 apart next [] h = refl
 apart next (x ∷ xs) h =

@@ -1,4 +1,4 @@
--- What a view asks of the state that its run begins on.
+-- What a view requires of the state on which its run begins.
 use Rattle.std.proofs.Common.{◌≡◌, arith, zero, suc, ℕ, ◌+◌, ◌<◌, ◌≤◌, ◌^◌, Bool, true, false, if◌then◌else◌, List, [], ◌∷◌, ◌++◌, length, map, None}
 use Rattle.std.specs.List.{AllByRecursion}
 use Rattle.std.proofs.lemmas.Bool.{and_parts}
@@ -38,7 +38,7 @@ use Rattle.jac_replies.specs.declared.answer.Ask.{Ask}
 use Rattle.jac_engine.proofs.ServedLaws.{storing}
 use Rattle.jac_lang.specs.Untemplated.{are_untemplated}
 
--- rows that an assignment shows of rows that were made before
+-- The rows that an assignment shows, of rows that were made before.
 before_if : (n : ℕ) (b : Bool) (r : PlainRow) (rows : List PlainRow) → number_of_id r.id < n → AllByRecursion (λ (q : PlainRow). number_of_id q.id < n) rows
     → AllByRecursion (λ (q : PlainRow). number_of_id q.id < n) (if b then r ∷ rows else rows)
 before_if n true r rows one more = (one, more)
@@ -56,7 +56,7 @@ before_tables w n model i [] h = tt
 before_tables w n model zero (t ∷ ts) h = before_rows w n model t h.1
 before_tables w n model (suc i) (t ∷ ts) h = before_tables w n (model + 1) i ts h.2
 
--- each record of a sound state was made before the next number
+-- Each record of a sound state was made before the next number.
 made_before : (w : ℕ → Bool) (n : ℕ) (s : State) → IsSound s → n ≡ s.number → AreMadeBefore n (project_at w s).tables
 made_before w n s sound is m = before_tables w n 0 m s.tables (rw is sound.tables)
 
@@ -65,7 +65,7 @@ ordered_tables w n model i [] h = tt
 ordered_tables w n model zero (t ∷ ts) h = rising_at w t h.0
 ordered_tables w n model (suc i) (t ∷ ts) h = ordered_tables w n (model + 1) i ts h.2
 
--- and each assignment shows its records in order
+-- Each assignment shows its records in order.
 pub ordered : (w : ℕ → Bool) (s : State) → IsSound s → HaveRisingIds (project_at w s).tables
 ordered w s sound m = ordered_tables w s.number 0 m s.tables sound.tables
 
@@ -79,7 +79,7 @@ choose_may true First Second r one other = one
 choose_may false First Second r one other = other
 
 mutual
-  -- what creates nothing asks nothing
+  -- A statement that creates nothing requires nothing.
   reading_may : (next : ℕ) (k : Setting) (s : Statement) → is_reading s ≡ true → (r : Run) → MayRun next k s r
   reading_may next k (Statement.put e) h r = tt
   reading_may next k (Statement.escape e) h r = tt
@@ -105,12 +105,13 @@ mutual
       let parts = and_parts (is_reading s) (are_reading rest) h in
       (reading_may next k s parts.0 r, all_reading_may next k rest parts.1 (leaves k s r))
 
--- a view that writes nothing asks nothing
+-- A view that writes nothing requires nothing.
 pub may_show : (next : ℕ) (app : Application) (v : View) (ask : Ask) (n : ℕ) (s : State) → is_served_body app.models verbs.Get v.body ≡ true → MayRunView next app v ask n s
 may_show next app v ask n s h w =
     all_reading_may next (setting_in w app ask n) v.body (and_parts (are_untemplated v.body) (are_reading v.body) h).1 (begun_view w app v ask s)
 
--- what a view of POST creates is new in a state that requests are answered on, in the request of its next number
+-- In a state in which requests may be answered, what a view for POST creates is new, in the request
+-- with its next number.
 pub may_store : (app : Application) (v : View) (ask : Ask) (n : ℕ) (s : State) → is_served_body app.models verbs.Post v.body ≡ true → IsStart app s → length app.models ≤ 64 → n ≡ s.number → n < 2 ^ 40
     → MayRunView (n + 1) app v ask n s
 may_store app v ask n s h start most is few w =
@@ -120,17 +121,17 @@ may_store app v ask n s h start most is few w =
     creates_new (n + 1) (setting_in w app ask n) v.body (begun_view w app v ask s) some few (omega arith) most keeps.sited keeps.apart keeps.placed (ordered w s start.sound) (start.flat w)
     (absent_before_number app.models n (sites v.body) (project_at w s).tables some few (made_before w n s start.sound is))
 
--- a sound state is sound with its own number
+-- A sound state is sound with its own number.
 pub sound_now : (s : State) (n : ℕ) → IsSound s → n ≡ s.number → IsSound (numbered_tables n s)
 sound_now s n sound is = rw is sound
 
--- and with the next one, while there are numbers
+-- It is sound with the next number too, while there are numbers left.
 pub sound_next : (s : State) (n : ℕ) → IsSound s → n ≡ s.number → n < 2 ^ 40 → IsSound (numbered_tables (n + 1) s)
 sound_next s n sound is few =
     rw (overlaid_none s.tables) at (sound-applied (record { changed = []; number = n + 1 }) s sound (omega (arith, is)) (omega (arith, few)) tt)
 
--- a state that requests are answered on is ready for a view that writes nothing, and, while there are numbers, for
--- one that stores
+-- A state in which requests may be answered is ready for a view that writes nothing. While there
+-- are numbers left, it is ready for a view that stores.
 pub ready_to_show : (app : Application) (v : View) (ask : Ask) (n : ℕ) (s : State) → is_served_body app.models verbs.Get v.body ≡ true → IsSound s → n ≡ s.number → IsReady app v ask n s
 ready_to_show app v ask n s served sound is = record { next = n; sound = sound_now s n sound is; new = may_show n app v ask n s served }
 
@@ -139,7 +140,7 @@ pub ready_to_store : (app : Application) (v : View) (ask : Ask) (n : ℕ) (s : S
 ready_to_store app v ask n s served start most is few =
     record { next = n + 1; sound = sound_next s n start.sound is few; new = may_store app v ask n s served start most is few }
 
--- a page of a run in the one world that the labels show
+-- A page of a run in the one world that the labels show.
 pub shows_view : (app : App) (v : View) (ask : Ask) (ctx : Ctx) (s now : State) (labels : List ℕ) (env : List Binding) (p : Page) → ctx.viewer ≡ ask.viewer → ctx.around ≡ None → now ≡ s
     → env ≡ parameters (application_of app).models v.params ask.pairs → p ≡ page_ran app ctx (shown_by labels) now env v.body
     → ShowsView (application_of app) v ask ctx.number s labels p

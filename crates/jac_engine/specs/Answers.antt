@@ -21,7 +21,7 @@ use Rattle.jac_replies.specs.declared.answer.Answer.{Answer}
 use Rattle.jac_replies.specs.declared.answer.Ask.{Ask}
 use Rattle.jac_replies.specs.Refused.{refusal}
 
--- a page, made under these labels
+-- A page, made under these labels.
 abbrev pub page_answer : List ℕ → Page → Answer
 page_answer labels p = record {
   status = p.status;
@@ -32,7 +32,7 @@ page_answer labels p = record {
   consulted = None;
 }
 
--- the same of a page for which no others than these labels were resolved
+-- The same for a page for which no labels were resolved except the consulted ones.
 abbrev pub lazy_answer : List ℕ → List ℕ → Page → Answer
 lazy_answer labels consulted p = record (page_answer labels p) { consulted = Some consulted }
 
@@ -40,18 +40,18 @@ abbrev pub params_in : Option View → List Field
 params_in None = []
 params_in (Some v) = v.params
 
--- the request with the pairs of its path before its own
+-- The request with the pairs of its path before its own.
 abbrev pub asked_with : List Pair → Ask → Ask
 asked_with pairs ask = record ask { pairs = pairs ++ ask.pairs }
 
--- the methods of a path with views of GET, and of POST
+-- The `Allow` text of a path, by whether it has a view for GET and one for POST.
 abbrev pub allow_text : Bool → Bool → List ℕ
 allow_text true true = codes "GET, HEAD, POST"
 allow_text true false = codes "GET, HEAD"
 allow_text false post = codes "POST"
 
--- the request as the ordinary interpreter takes it: the place of its view, its parameters and who
--- looks
+-- The request as the ordinary interpreter takes it: the place of its view, its parameters and the
+-- viewer.
 abbrev pub visit_of : Application → Ask → ℕ → Visit
 visit_of app ask n = record {
   view = n;
@@ -59,8 +59,8 @@ visit_of app ask n = record {
   viewer = ask.viewer;
 }
 
--- a page under its labels: the interpreter's, in the world before the request that they show; and
--- the labels are settled for who asks, in the worlds after it
+-- A page under its labels. It is the interpreter's, in the world before the request that the labels
+-- show. The labels are settled for the viewer in the worlds after the request.
 pub record IsPage (app : Application) (before after : Worlds) (visit : Visit)
     (answer : Answer) : Type 0 where
   pub labels : List ℕ
@@ -68,9 +68,9 @@ pub record IsPage (app : Application) (before after : Worlds) (visit : Visit)
       (shown_by labels)) visit)
   pub settled : IsSettled app after visit.viewer labels
 
--- a page for which the labels alone were resolved that it and their policies consulted: these
--- labels are steady for who asks, and it is the interpreter's page whatever is shown beside what
--- was consulted
+-- A page for which only the labels were resolved that it and their policies consulted. The labels
+-- are steady for the viewer, and the page is the interpreter's, whatever is shown besides what was
+-- consulted.
 pub record IsLazyPage
     (app : Application) (worlds : Worlds) (visit : Visit) (answer : Answer) : Type 0 where
   pub labels : List ℕ
@@ -79,7 +79,7 @@ pub record IsLazyPage
   pub made : (w : ℕ → Bool) → Agrees consulted (shown_by labels) w
       → answer ≡ lazy_answer labels consulted (page w app (worlds w) visit)
 
--- a GET's page; the flag says that only what is consulted is resolved
+-- A GET's page. The flag says that only what is consulted is resolved.
 abbrev pub IsShownPage : Bool → Application → Worlds → Visit → Answer → Type 0
 IsShownPage false app worlds visit answer = IsPage app worlds worlds visit answer
 IsShownPage true app worlds visit answer = IsLazyPage app worlds visit answer
@@ -87,21 +87,21 @@ IsShownPage true app worlds visit answer = IsLazyPage app worlds visit answer
 abbrev pub worlds_after : Application → Worlds → Visit → Worlds
 worlds_after app worlds visit w = after w app (worlds w) visit
 
--- the next number, which every world has
+-- No number is left, in any world.
 abbrev pub HasNoNumber : Worlds → Type 0
 HasNoNumber worlds = (w : ℕ → Bool) → (worlds w).number ≡ 2 ^ 40
 
 abbrev pub HasNextNumber : Worlds → Type 0
 HasNextNumber worlds = (w : ℕ → Bool) → (worlds w).number < 2 ^ 40
 
--- a POST's page, while there are numbers; where there are none it is refused
+-- The page of a GET; or the page of a POST while there are numbers left, and otherwise its refusal.
 abbrev pub IsAnswerOf : Bool → Verb → Application → Worlds → Visit → Answer → Type 0
 IsAnswerOf lazy verbs.Get app worlds visit answer = IsShownPage lazy app worlds visit answer
 IsAnswerOf lazy verbs.Post app worlds visit answer =
     ((answer ≡ refusal 507 None) × HasNoNumber worlds)
     ⊎ (HasNextNumber worlds × IsPage app worlds (worlds_after app worlds visit) visit answer)
 
--- by what the request finds
+-- The answer, by what the request finds.
 abbrev pub IsAnswerBy : Bool → Found → Application → Worlds → Ask → Answer → Type 0
 IsAnswerBy lazy founds.NoRoute app worlds ask answer = answer ≡ refusal 404 None
 IsAnswerBy lazy (founds.WrongMethod allow) app worlds ask answer =
@@ -110,19 +110,19 @@ IsAnswerBy lazy (founds.View n pairs) app worlds ask answer =
     IsAnswerOf lazy (method_in (slice_get app.views n)) app worlds
     (visit_of app (asked_with pairs ask) n) answer
 
--- the answer to a request in these worlds
+-- The answer to a request in these worlds.
 abbrev pub IsAnswerTo : Bool → Application → Worlds → Ask → Answer → Type 0
 IsAnswerTo lazy app worlds ask answer =
     IsAnswerBy lazy (found app ask.method ask.path) app worlds ask answer
 
--- a page that some run made
+-- A page that some run made.
 pub record IsSomePage (answer : Answer) : Type 0 where
   pub labels : List ℕ
   pub pieces : List Piece
   pub made : answer ≡ page_answer labels (page_of pieces)
   pub ascending : IsAscending labels
 
--- a page that some run made, for which no others than these labels were resolved
+-- A page that some run made, for which no labels were resolved except the consulted ones.
 pub record IsSomeLazyPage (answer : Answer) : Type 0 where
   pub labels : List ℕ
   pub consulted : List ℕ
@@ -146,8 +146,8 @@ HasFormBy lazy (founds.WrongMethod allow) app answer =
 HasFormBy lazy (founds.View n pairs) app answer =
     HasFormOf lazy (method_in (slice_get app.views n)) answer
 
--- what is known of the answer where no world is: a refusal has its cause, and a page is one that a
--- run made
+-- What is known of an answer without any world: a refusal has its cause, and a page was made by
+-- some run.
 abbrev pub HasForm : Bool → Application → Ask → Answer → Type 0
 HasForm lazy app ask answer = HasFormBy lazy (found app ask.method ask.path) app answer
 
@@ -159,7 +159,8 @@ left_by (founds.View n pairs) w app ask None t = t
 left_by (founds.View n pairs) w app ask (Some labels) t =
     after w app t (visit_of app (asked_with pairs ask) n)
 
--- what an answer leaves of the world of an assignment: what its view leaves, where it is a page
+-- What an answer leaves of the world of an assignment: if the answer is a page, what its view
+-- leaves, and otherwise the same world.
 abbrev pub world_left : (ℕ → Bool) → Application → Ask → Answer → PlainState → PlainState
 world_left w app ask answer t = left_by (found app ask.method ask.path) w app ask answer.shown t
 
@@ -173,7 +174,7 @@ is_stored_by (founds.WrongMethod allow) app shown = false
 is_stored_by (founds.View n pairs) app None = false
 is_stored_by (founds.View n pairs) app (Some labels) = is_post (method_in (slice_get app.views n))
 
--- whether a change comes with the answer: it does with the page of a POST
+-- Whether a change comes with the answer, as it does with the page of a POST.
 abbrev pub is_stored : Application → Ask → Answer → Bool
 is_stored app ask answer = is_stored_by (found app ask.method ask.path) app answer.shown
 
@@ -182,6 +183,6 @@ stores_by founds.NoRoute app = false
 stores_by (founds.WrongMethod allow) app = false
 stores_by (founds.View n pairs) app = is_post (method_in (slice_get app.views n))
 
--- whether the request finds a view that stores
+-- Whether the request finds a view that stores.
 abbrev pub stores : Application → Ask → Bool
 stores app ask = stores_by (found app ask.method ask.path) app

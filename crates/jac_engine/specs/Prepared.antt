@@ -1,4 +1,5 @@
--- What answers a request before anything is stored.
+-- What is prepared for a request before anything is stored: its answer, its change, and what that
+-- change invalidates.
 use Rattle.std.specs.Prelude.{◌≡◌, ℕ, Bool, false, IsTrue, List, Option, Some, None, is_some, ⊤}
 use Rattle.jac_lang.specs.Syntax.{Application}
 use Rattle.jac_rows.specs.Good.{IsGood}
@@ -20,14 +21,14 @@ use Rattle.jac_resolve.specs.Rounds.{AreFewEvaluations}
 use Rattle.jac_resolve.specs.ValidCache.{IsValidCache}
 use Rattle.jac_plain.specs.Shown.{worlds_of}
 
--- the state after a change, if there is one
+-- The state after a change, if there is one.
 abbrev pub applied_if : Option Change → State → State
 applied_if None s = s
 applied_if (Some change) s = changed_state change s
 
--- what answers a request on a state; where the state is told, the answer is the interpreter's in
--- its worlds, and what is to be stored shows under every assignment what the interpreter leaves,
--- and stays good
+-- What answers a request on a state. If the contents of the state are known, the answer is the
+-- interpreter's in the worlds of the state. The change then leaves under every assignment what the
+-- interpreter leaves, and the state stays good.
 pub record IsPrepared
     (lazy tells : Bool) (app : Application) (s : State) (ask : Ask) (p : Prepared) : Type 0 where
   pub form : HasForm lazy app ask p.answer
@@ -39,33 +40,35 @@ pub record IsPrepared
   pub good : IsTrue tells → IsGood (shapes_of app) s
       → IsGood (shapes_of app) (applied_if p.change s)
 
--- for each viewer, what lies between the worlds of the two states is affected
+-- For each viewer, the invalidation covers the step from the worlds of the first state to those of
+-- the second.
 abbrev pub AreCovered : Application → State → State → Invalidation → Type 0
 AreCovered app s later invalidation = (viewer : Option ℕ)
     → IsCovered app (worlds_of s) (worlds_of later) invalidation viewer
 
--- a change has its invalidation
+-- If there is a change, there is an invalidation for it.
 abbrev pub IsInvalidationOf : Application → State → Option Change → Option Invalidation → Type 0
 IsInvalidationOf app s None invalidation = ⊤
 IsInvalidationOf app s (Some change) None = ⊥
 IsInvalidationOf app s (Some change) (Some invalidation) = AreCovered app s (changed_state change s)
     invalidation
 
--- what was settled for who asks is so after the change, which has its invalidation
+-- The viewer's cache is valid after the change, and the change has its invalidation.
 pub record KeepsCache (tells : Bool) (app : Application) (s : State) (viewer : Option ℕ)
     (it : PreparedWithCache) : Type 0 where
   pub valid : IsTrue tells
       → IsValidCache app (worlds_of (applied_if it.prepared.change s)) viewer it.cache
   pub affected : IsTrue tells → IsInvalidationOf app s it.prepared.change it.invalidation
 
--- where all labels of a page are settled, the state is told, and none were settled before for who
--- asks, policies were evaluated few times for the live labels of the state that is left
+-- If all labels of a page are settled, the contents of the state are known, and no labels were
+-- settled before for the viewer, few policies were evaluated for the live labels of the state that
+-- is left.
 pub record AsksFew (lazy tells : Bool) (app : Application) (s : State) (viewer : Option ℕ)
     (settled : Option (List ℕ)) (before now : ℕ) (p : Prepared) : Type 0 where
   pub few : lazy ≡ false → IsTrue tells → settled ≡ None
       → AreFewEvaluations app (applied_if p.change s) viewer before now
 
--- the same over the tables that are left, whatever the next number
+-- The same over the tables that are left, with any next number.
 pub record AsksFewOver (app : Application) (viewer : Option ℕ) (settled : Option (List ℕ))
     (before now : ℕ) (tables : List (List Row)) : Type 0 where
   pub few : (n : ℕ) → settled ≡ None

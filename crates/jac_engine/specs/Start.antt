@@ -6,8 +6,8 @@ use Rattle.jac_rows.specs.Good.{IsSound}
 use Rattle.jac_rows.specs.Project.{project_at}
 use Rattle.jac_plain.specs.Models.{AreFlat}
 
--- a sound state with a table for each model, in which every assignment shows wide ids in nested
--- models alone
+-- A sound state with a table for each model. Under every assignment, only nested models have wide
+-- ids.
 pub record IsStart (app : Application) (s : State) : Type 0 where
   pub sound : IsSound s
   pub tables : length app.models ≤ length s.tables

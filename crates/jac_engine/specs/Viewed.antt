@@ -1,4 +1,4 @@
--- What is prepared where the request finds a view, and where it finds none.
+-- What is prepared for a request that finds a view, and for one that finds none.
 use Rattle.std.specs.Prelude.{◌≡◌, ℕ, ◌<◌, ◌^◌, ◌⊎◌, Bool, IsTrue, Option, Some, None, List, slice_get}
 use Rattle.jac_lang.specs.declared.pages.Verb.{Verb}
 use Rattle.jac_lang.specs.declared.pages.Verb.TheVariants as verbs
@@ -20,7 +20,7 @@ use Rattle.jac_plain.specs.Shown.{worlds_of}
 abbrev pub prepared_refusal : ℕ → Option (List ℕ) → Prepared
 prepared_refusal status allow = record { answer = refusal status allow; change = None }
 
--- a GET changes nothing
+-- A GET changes nothing.
 pub record IsShown
     (lazy tells : Bool) (app : Application) (s : State) (visit : Visit)
     (p : Prepared) : Type 0 where
@@ -28,19 +28,19 @@ pub record IsShown
   pub form : IsSomeShownPage lazy p.answer
   pub shows : IsTrue tells → IsShownPage lazy app (worlds_of s) visit p.answer
 
--- a POST without a page: the numbers are used up
+-- A POST without a page, because the numbers are used up.
 pub record IsFull (tells : Bool) (s : State) (p : Prepared) : Type 0 where
   pub refusal : p ≡ prepared_refusal 507 None
   pub full : IsTrue tells → s.number ≡ 2 ^ 40
 
--- what a POST's change leaves is, under every assignment, what the interpreter leaves
+-- Under every assignment, a POST's change leaves what the interpreter leaves.
 pub record Stores (app : Application) (s : State) (visit : Visit) (change : Change) : Type 0 where
   pub room : s.number < 2 ^ 40
   pub worlds : (w : ℕ → Bool) → project_at w (changed_state change s) ≡ after w app
       (project_at w s) visit
   pub start : IsStart app (changed_state change s)
 
--- a POST with a page
+-- A POST with a page.
 pub record IsPageStored (tells : Bool) (app : Application) (s : State) (visit : Visit)
     (p : Prepared) : Type 0 where
   pub change : Change

@@ -22,12 +22,12 @@ use Rattle.jac_resolve.specs.ValidCache.{IsValidCache}
 use Rattle.jac_engine.specs.Prepared.{AreCovered}
 use Rattle.jac_plain.specs.Shown.{worlds_of}
 
--- what stays the same through the run in the request of this number
+-- What stays the same during the run in the request with this number.
 abbrev pub setting_in : (ℕ → Bool) → Application → Ask → ℕ → Setting
 setting_in w app ask number =
     record { models = app.models; shown = w; viewer = ask.viewer; number = number; around = None }
 
--- where the run begins: the tables that the assignment shows, and the parameters
+-- The beginning of the run: the tables that the assignment shows, and the parameters.
 abbrev pub begun_view : (ℕ → Bool) → Application → View → Ask → State → Run
 begun_view w app v ask s = record {
   tables = (project_at w s).tables;
@@ -35,24 +35,25 @@ begun_view w app v ask s = record {
   pieces = [];
 }
 
--- the interpreter's run of the view's statements
+-- The interpreter's run of the view's statements.
 abbrev pub ran_by : (ℕ → Bool) → Application → View → Ask → ℕ → State → Run
 ran_by w app v ask number s = leaves_all (setting_in w app ask number) v.body
     (begun_view w app v ask s)
 
--- what the view creates is new, in each world
+-- The records that the view creates are new, in each world.
 abbrev pub MayRunView : ℕ → Application → View → Ask → ℕ → State → Type 0
 MayRunView next app v ask number s = (w : ℕ → Bool)
     → MayRunAll next (setting_in w app ask number) v.body (begun_view w app v ask s)
 
--- each assignment shows of these tables what the interpreter leaves, and they are sound with this
--- next number
+-- Each assignment shows of these tables what the interpreter leaves. They are sound with this next
+-- number.
 pub record RanTables (next : ℕ) (app : Application) (v : View) (ask : Ask) (number : ℕ)
     (old : State) (tables : List (List Row)) : Type 0 where
   pub left : (w : ℕ → Bool) → map (rows_at w) tables ≡ (ran_by w app v ask number old).tables
   pub sound : IsSound (record { tables = tables; number = next })
 
--- the run leaves tables and pieces, where the state is sound and what the view creates is new
+-- The run leaves tables and pieces, if the state is sound and the records that the view creates are
+-- new.
 pub record RunsView (app : Application) (v : View) (ask : Ask) (number : ℕ) (old : State)
     (left : List (List Row)) (out : List (List (ℕ × Bool) × Piece)) : Type 0 where
   pub tables : (next : ℕ) → IsSound (numbered_tables next old)
@@ -67,21 +68,21 @@ pub record LeavesTables (app : Application) (v : View) (ask : Ask) (number : ℕ
   pub ran : (next : ℕ) → IsSound (numbered_tables next old) → MayRunView next app v ask number old
       → RanTables next app v ask number old tables
 
--- the page under these labels is the one of the interpreter's run
+-- The page under these labels is that of the interpreter's run.
 pub record ShowsView (app : Application) (v : View) (ask : Ask) (number : ℕ) (old : State)
     (labels : List ℕ) (p : Page) : Type 0 where
   pub page : (next : ℕ) → IsSound (numbered_tables next old) → MayRunView next app v ask number old
       → p ≡ page_of (ran_by (shown_by labels) app v ask number old).pieces
 
--- the state is sound with a next number for which what the view creates is new
+-- The state is sound with a next number for which the records that the view creates are new.
 pub record IsReady (app : Application) (v : View) (ask : Ask) (number : ℕ)
     (s : State) : Type 0 where
   pub next : ℕ
   pub sound : IsSound (numbered_tables next s)
   pub new : MayRunView next app v ask number s
 
--- over the tables, whatever the next number, the labels are settled, and what was settled for the
--- viewer is; and what lies between them and the old state is affected
+-- Over the tables, with any next number, the labels are settled and the viewer's cache is valid.
+-- The invalidation covers the step from the old state to them.
 pub record SettlesView (app : Application) (viewer : Option ℕ) (old : State)
     (tables : List (List Row)) (labels : List ℕ) (cache : ViewerCache)
     (invalidation : Invalidation) : Type 0 where

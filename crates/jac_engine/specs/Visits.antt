@@ -1,4 +1,4 @@
--- A request that found a view, as the ordinary interpreter takes it.
+-- A request that found a view, as the ordinary interpreter runs it.
 use Rattle.std.specs.Prelude.{ℕ, Option}
 use Rattle.jac_lang.specs.Mirror.{application_of, page_of_view}
 use Rattle.jac_lang.specs.Syntax.{Page as View, Application}
@@ -10,7 +10,7 @@ use Rattle.jac_engine.specs.declared.lookup.Visited.{Visited}
 abbrev pub app_of : Visited → Application
 app_of visited = application_of visited.app.now
 
--- with the pairs of its path before its own
+-- The request with the pairs of its path before its own.
 abbrev pub request_at : Visited → Ask
 request_at visited = asked_with visited.path.now visited.ask.now
 

@@ -36,14 +36,14 @@ use std::sync::ledger::Ledger;
 
 const LAST_NUMBER: u64 = 1 << 40;
 
-/// An answer, and what is to be stored with it.
+/// An answer, and the change to store with it, if there is one.
 #[derive(Drop)]
 pub struct Prepared {
     pub answer: Answer,
     pub change: Option<Change>,
 }
 
-/// The prepared answer, the viewer's cache on the state after it, and what its change may affect,
+/// The prepared answer, the viewer's cache for the state after it, and what its change may affect,
 /// if there is a change.
 #[derive(Drop)]
 pub struct PreparedWithCache {
@@ -55,18 +55,18 @@ pub struct PreparedWithCache {
 /// How the labels of a page are found.
 #[derive(Drop)]
 pub struct Manner {
-    /// For the page of a `GET` only the labels are resolved that are consulted for it. The cache
-    /// isn't used then, and stays as it is.
+    /// For the page of a `GET`, only the labels are resolved that are consulted for it. The cache
+    /// isn't used then, and doesn't change.
     pub lazy: bool,
     /// The cache of the viewer.
     pub cache: ViewerCache,
 }
 
-/// Answers the request on what the keeper keeps, and changes nothing. The labels of a page are
+/// Answers the request on the contents of the keeper, and changes nothing. The labels of a page are
 /// settled for the viewer: on the stored state for a GET, on the state after it for a POST. Stale
-/// labels of the viewer's cache are settled again, and no policy is asked whose answer is cached.
-/// If `lazy` is set, those of a GET's page are steady for the viewer instead, and only labels were
-/// resolved that the page and their policies consulted. Each policy that is asked counts in
+/// labels of the viewer's cache are settled again, and no policy with a cached result is evaluated.
+/// If `lazy` is set, the labels of a GET's page are steady for the viewer instead, and only labels
+/// are resolved that the page and their policies consult. Each evaluation of a policy counts in
 /// `evaluations`.
 pub fn prepare<K: Keeper, L: Ledger, M: Ledger>(
     alloc: Global,
@@ -100,7 +100,7 @@ pub fn prepare<K: Keeper, L: Ledger, M: Ledger>(
     Ok(valid)
 }
 
-// The same, by what the request finds.
+// The same, for what the request finds.
 fn prepare_found<K: Keeper, L: Ledger, M: Ledger>(
     alloc: Global,
     service: &Service,
@@ -154,7 +154,7 @@ fn prepare_found<K: Keeper, L: Ledger, M: Ledger>(
     }
 }
 
-// Nothing is stored, and what was settled stays so.
+// Nothing is stored, and the cache stays as it is.
 fn unmoved(prepared: Prepared, cache: ViewerCache) -> PreparedWithCache
     ensures { result ≡ record { prepared = prepared; cache = cache; invalidation = None } }
 {
@@ -165,7 +165,7 @@ fn unmoved(prepared: Prepared, cache: ViewerCache) -> PreparedWithCache
     }
 }
 
-// What the request finds: a view is one of the application's.
+// What the request finds. A view that is found is one of the application's.
 fn find_view(alloc: Global, app: &App, routes: &Routes, ask: &Ask) -> Result<Found, Memory>
     requires routes { AreRoutes (application_of app.now) routes.now }
     ensures found { IfOk result (λ f.
@@ -219,7 +219,7 @@ fn answer_view<K: Keeper, L: Ledger, M: Ledger>(
     }
 }
 
-// The page of a view that shows, in the way that is asked for.
+// The page of a view that only shows, in the given manner.
 fn show_by<K: Keeper, M: Ledger>(
     alloc: Global,
     keeper: &mut K,
@@ -254,7 +254,7 @@ fn show_by<K: Keeper, M: Ledger>(
     show(alloc, keeper, visited, cache, evaluations)
 }
 
-// The page of a view that shows, under the labels of the cache.
+// The page of a view that only shows, under the labels of the cache.
 fn show<K: Keeper, M: Ledger>(
     alloc: Global,
     keeper: &mut K,
@@ -293,7 +293,7 @@ fn show<K: Keeper, M: Ledger>(
     })
 }
 
-// The page of a view that shows, after the labels alone were resolved that were consulted for it.
+// The page of a view that only shows. Only the labels that are consulted for it are resolved.
 fn show_lazily<K: Keeper, M: Ledger>(
     alloc: Global,
     keeper: &mut K,
@@ -318,7 +318,7 @@ fn show_lazily<K: Keeper, M: Ledger>(
     })
 }
 
-// The page of a view that stores, and what it stores, while there are numbers.
+// The page of a view that stores, and what it stores, while there are numbers left.
 fn store<K: Keeper, L: Ledger, M: Ledger>(
     alloc: Global,
     keeper: &mut K,
@@ -395,7 +395,7 @@ fn answer_of(shown: Labelled) -> Answer
     }
 }
 
-// The answer with this page, under its labels, and with those that were consulted for it.
+// The answer with this page, under its labels, and with the labels that were consulted for it.
 fn lazy_answer_of(made: LazyPage) -> Answer
     ensures answer { result ≡ lazy_answer made.shown made.consulted made.page }
     ensures ascending { IsAscending made.shown }
@@ -423,8 +423,8 @@ fn lazy_answer_of(made: LazyPage) -> Answer
     }
 }
 
-/// Stores what was prepared, by one call of the keeper's `apply` where there is a change. It takes
-/// no memory of its own.
+/// Stores what was prepared. If there is a change, this is one call of the keeper's `apply`. It
+/// needs no memory of its own.
 pub fn commit<K: Keeper>(alloc: Global, keeper: &mut K, prepared: Prepared) -> Result<Answer, Stop>
     requires attached { IsTrue (K.seen keeper.old).store.attached }
     requires good { IsTrue (K.seen keeper.old).tells

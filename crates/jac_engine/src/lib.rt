@@ -1,4 +1,5 @@
-//! One request: its page is prepared together with what it stores, and then committed.
+//! Computes a request's page and its change of the store, and commits the change. Both are those of
+//! the ordinary interpreter.
 #![tactic(auto)]
 
 mod answer;

@@ -11,14 +11,14 @@ use jac_route::Pairs;
 pub(crate) struct Visited<'v> {
     pub(crate) app: &'v App,
     pub(crate) ask: &'v Ask,
-    /// What the path gives to the names in the pattern.
+    /// The values that the path gives to the names in the pattern.
     pub(crate) path: &'v Pairs,
     /// The place of the view in the application.
     pub(crate) place: u32,
     pub(crate) view: &'v View,
 }
 
-/// The view of this number.
+/// The view with this number.
 #[tactic(auto, using(jac_app_load::proofs::PlaceLaws::page_at))]
 pub(crate) fn view_at(app: &App, number: u32) -> &View
     requires { number < length app.now.views }

@@ -11,7 +11,7 @@ use jac_route::{Pairs, bind};
 use jac_value::{Memory, Txt, Value};
 use std::alloc::Global;
 
-/// The parameters of the view, alike under every assignment: pairs of the path come before the
+/// The parameters of the view, the same under every assignment. Pairs of the path come before the
 /// others.
 pub(crate) fn bind_alike(
     alloc: Global,
@@ -28,7 +28,7 @@ pub(crate) fn bind_alike(
     Ok(env)
 }
 
-// The bindings, alike under every assignment.
+// The bindings, the same under every assignment.
 fn alike(alloc: Global, bindings: &[Binding]) -> Result<Env, Memory>
     ensures { IfOk result (λ env. (w : ℕ → Bool) → env_at w env ≡ bindings.now) }
 {

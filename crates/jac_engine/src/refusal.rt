@@ -10,7 +10,7 @@ use jac_route::Allow;
 use jac_value::{Bytes, Memory, Txt};
 use std::alloc::Global;
 
-/// The refusal of a method that a path hasn't.
+/// The refusal of a method that a path doesn't have.
 pub(crate) fn refuse_method(alloc: Global, allow: Allow) -> Result<Prepared, Memory>
     ensures { IfOk result (λ p. p ≡ prepared_refusal 405 (Some (allow_text allow.get allow.post))) }
 {
@@ -19,7 +19,7 @@ pub(crate) fn refuse_method(alloc: Global, allow: Allow) -> Result<Prepared, Mem
     Ok(prepared)
 }
 
-/// An answer of this status, whose body is its reason.
+/// An answer with this status. Its body is the reason.
 pub(crate) fn refuse(alloc: Global, status: u16, allow: Option<Txt>) -> Result<Prepared, Memory>
     ensures { IfOk result (λ p. p ≡ prepared_refusal status allow) }
 {

@@ -1,4 +1,4 @@
-//! One run of a view over a keeper, and the labels that its page is made under.
+//! One run of a view over a keeper, and the labels under which its page is made.
 ghost use Rattle.std.specs.Prelude.{◌≡◌, ◌<◌, ◌≤◌, ◌+◌, ◌^◌, true, length, slice_get, IfOk, OnOk, IsErrOf, IsTrue, None, Some};
 ghost use Rattle.jac_io.specs.Faults.{Rose};
 ghost use Rattle.jac_keep.specs.KeeperSeen.{IsLeft};
@@ -36,7 +36,7 @@ use jac_world::{Assignment, Guard, Steps};
 use std::alloc::Global;
 use std::sync::ledger::Ledger;
 
-/// A page, and the labels that it was made under.
+/// A page, and the labels under which it was made.
 #[derive(Drop)]
 pub(crate) struct Labelled {
     pub(crate) page: Page,
@@ -50,7 +50,7 @@ pub(crate) struct PageWithInvalidation {
     pub(crate) invalidation: Invalidation,
 }
 
-/// A page, what is to be stored with it, and what that may affect.
+/// A page, the change to store with it, and what the change may affect.
 #[derive(Drop)]
 pub(crate) struct Stored {
     pub(crate) shown: Labelled,
@@ -59,7 +59,7 @@ pub(crate) struct Stored {
 }
 
 /// The page of a view that writes nothing, made in the one world that the cache's labels show.
-/// Stale ones are settled again on the stored state before.
+/// Stale labels are settled first, on the stored state.
 pub(crate) fn shown_page<K: Keeper, M: Ledger>(
     alloc: Global,
     keeper: &mut K,
@@ -96,8 +96,8 @@ pub(crate) fn shown_page<K: Keeper, M: Ledger>(
     Ok(shown)
 }
 
-/// The page of the view, which writes nothing. Of the labels on what the keeper keeps only those
-/// are resolved that the page and their policies consult.
+/// The page of a view that writes nothing. Of the labels in the keeper's state, only those are
+/// resolved that the page and their policies consult.
 pub(crate) fn shown_lazily<K: Keeper, M: Ledger>(
     alloc: Global,
     keeper: &mut K,
@@ -232,7 +232,7 @@ fn page_under<K: Keeper>(
     Ok(page)
 }
 
-// What a view is run in.
+// The context in which a view is run.
 fn context(visited: &Visited<'_>, number: u64) -> Ctx
     ensures { result
         ≡ record { viewer = viewer_at visited.now; this = None; number = number; around = None } }
@@ -246,7 +246,7 @@ fn context(visited: &Visited<'_>, number: u64) -> Ctx
 }
 
 /// The page of the view under labels that are settled after its run, the change to store, and what
-/// that may affect. The viewer's cache is settled after the run too.
+/// the change may affect. The viewer's cache is settled after the run too.
 pub(crate) fn stored_page<K: Keeper, L: Ledger, M: Ledger>(
     alloc: Global,
     keeper: &mut K,
@@ -298,7 +298,7 @@ pub(crate) fn stored_page<K: Keeper, L: Ledger, M: Ledger>(
     })
 }
 
-// The same over a work, said of its tables alone.
+// The same over a work, in terms of its tables only.
 fn settle_view<K: Keeper, L: Ledger, M: Ledger>(
     work: &mut Work<'_, K>,
     visited: &Visited<'_>,
@@ -339,8 +339,8 @@ fn settle_view<K: Keeper, L: Ledger, M: Ledger>(
     Ok(with_invalidation)
 }
 
-// Runs the statements of the view, settles the labels on what they leave, and makes the page that
-// these show.
+// Runs the statements of the view, settles the labels on the result, and makes the page that these
+// labels show.
 fn store_view<K: Keeper, L: Ledger, M: Ledger>(
     work: &mut Work<'_, K>,
     visited: &Visited<'_>,
@@ -392,7 +392,7 @@ fn store_view<K: Keeper, L: Ledger, M: Ledger>(
     })
 }
 
-// What the work may affect, of which nothing is settled any longer for who asks.
+// What the work may affect. It is invalidated in the viewer's cache.
 fn invalidate_cache<K: Keeper>(
     work: &mut Work<'_, K>,
     visited: &Visited<'_>,
