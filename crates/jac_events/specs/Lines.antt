@@ -10,26 +10,26 @@ use Rattle.jac_events.specs.declared.event.Event.TheVariants.{Ask, Begin, Piece,
 use Rattle.jac_value.specs.Paths.{is_nil}
 use Rattle.jac_value.specs.Visitors.{number_below, viewer_read}
 
--- the number of a connection
+-- The number of a connection.
 abbrev pub conn_of : List ℕ → Option ℕ
 conn_of word = number_below 10 (2 ^ 32) word
 
--- 1 to 15 upper-case letters
+-- 1 to 15 upper-case letters.
 abbrev pub is_method : List ℕ → Bool
 is_method word = nat_lt 0 (length word) && nat_le (length word) 15 && list_all is_ascii_uppercase
     word
 
--- a text that begins with `/`
+-- A text that begins with `/`.
 abbrev pub is_path_target : List ℕ → Bool
 is_path_target bytes = bytes_eq (take 1 bytes) (codes "/") && is_utf8 bytes
 
--- the request of these parts: the path is what stands before the target's first `?`, the query what
--- follows it
+-- The request of these parts. The path is what comes before the target's first `?`, and the query
+-- what comes after it.
 abbrev pub request_of_parts : Option ℕ → List ℕ → List ℕ → List ℕ → Event
 request_of_parts viewer method target body = Ask viewer method (before_first (λ b. b == 63) target)
     (after_first (λ b. b == 63) target) body
 
--- after `ask`: `VIEWER METHOD "TARGET" "BODY"`
+-- After `ask`: `VIEWER METHOD "TARGET" "BODY"`.
 abbrev pub ask_of : List ℕ → Option Event
 ask_of rest =
     option_and_then (λ viewer.
@@ -47,7 +47,7 @@ ask_of rest =
     (word_at viewer.1))
     (word_at rest)
 
--- after `data`: `N "BYTES"`
+-- After `data`: `N "BYTES"`.
 abbrev pub data_of : List ℕ → Option Event
 data_of rest =
     option_and_then (λ number.
@@ -58,7 +58,7 @@ data_of rest =
     (quoted_at number.1))
     (word_at rest)
 
--- `ask ..`, `open N`, `data N "BYTES"` or `end N`, with one space between two parts
+-- `ask ..`, `open N`, `data N "BYTES"` or `end N`, with one space between two parts.
 abbrev pub event_by : List ℕ → List ℕ → Option Event
 event_by verb rest =
     if bytes_eq verb (codes "ask") then ask_of rest else
@@ -67,11 +67,11 @@ event_by verb rest =
     if bytes_eq verb (codes "end") then option_map Finish (conn_of rest) else
     None
 
--- the event of a line that isn't empty, where it has a form
+-- The event of a line that isn't empty, if the line has a form.
 abbrev pub event_of : List ℕ → Option Event
 event_of line = option_and_then (λ first. event_by first.0 first.1) (word_at line)
 
--- what a line writes down, where it has a form: an empty one nothing
+-- What a line describes, if it has a form. An empty line describes nothing.
 abbrev pub line_of : List ℕ → Option (Option Event)
 line_of [] = Some None
 line_of (b ∷ bytes) = option_map (λ event. Some event) (event_of (b ∷ bytes))

@@ -11,7 +11,7 @@ use jac_value::{Bytes, Memory, Txt, TxtFault, read_viewer};
 use std::alloc::Global;
 use std::str::from_utf8;
 
-/// The request that stands after the word `ask`, or none where that has another form.
+/// The request after the word `ask`, or none if the rest has another form.
 pub fn read_ask(alloc: Global, rest: &[u8]) -> Result<Option<Event>, Memory>
     ensures { IfOk result (λ event. event ≡ ask_of rest.now) }
 {
@@ -101,7 +101,7 @@ fn make_ask(
     })
 }
 
-// What stands before the first `?`, and what follows it.
+// What comes before the first `?`, and what comes after it.
 fn path_and_query(target: &[u8]) -> (&[u8], &[u8])
     ensures path { result.0.now ≡ before_first (λ b. b == 63) target.now }
     ensures query { result.1.now ≡ after_first (λ b. b == 63) target.now }

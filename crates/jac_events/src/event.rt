@@ -1,6 +1,6 @@
 use jac_value::{Bytes, Txt};
 
-/// What a line writes down.
+/// What a line describes.
 #[derive(Drop)]
 pub enum Event {
     /// A request without a connection. The viewer is the number of a record, as the line has it.
@@ -15,7 +15,7 @@ pub enum Event {
     Begin {
         conn: u32,
     },
-    /// Bytes come on a connection.
+    /// Bytes arrive on a connection.
     Piece {
         conn: u32,
         bytes: Bytes,
@@ -26,11 +26,11 @@ pub enum Event {
     },
 }
 
-/// Why a line isn't read.
+/// Why a line can't be read.
 #[derive(Clone, Copy, PartialEq, Eq)]
 pub enum LineFault {
-    /// The line has no form.
+    /// The line has none of the forms.
     BadLine,
-    /// A growth was refused.
+    /// Out of memory.
     Memory,
 }

@@ -1,4 +1,4 @@
-//! The lines of an events file: each is the event that it writes down, or has no form.
+//! Reads the lines of an events file: requests, and the beginnings, pieces and ends of connections.
 #![tactic(auto)]
 
 mod ask;

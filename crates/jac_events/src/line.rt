@@ -12,7 +12,7 @@ use crate::{Event, LineFault};
 use jac_value::Memory;
 use std::alloc::Global;
 
-/// The event of a line, which is given without its LF. An empty line has none.
+/// The event of a line, without its LF. An empty line has none.
 pub fn read_line(alloc: Global, line: &[u8]) -> Result<Option<Event>, LineFault>
     ensures read { IfOk result (λ event. line_of line.now ≡ Some event) }
     ensures bad { result ≡ Err BadLine → line_of line.now ≡ None }

@@ -7,7 +7,7 @@ use crate::words::behind;
 use jac_value::{Bytes, Memory};
 use std::alloc::Global;
 
-/// What stands at the front of the rest of a quoted text.
+/// What is at the front of the rest of a quoted text.
 #[derive(Clone, Copy)]
 enum Front<'a> {
     Byte(u8, &'a [u8]),
@@ -15,7 +15,7 @@ enum Front<'a> {
     Bad,
 }
 
-/// The content of a quoted text that stands first, and what follows it.
+/// The content of a quoted text at the front, and what follows it.
 pub fn quoted(alloc: Global, bytes: &[u8]) -> Result<Option<(Bytes, &[u8])>, Memory>
     ensures { IfOk result (λ read. option_map (λ p. (p.0, p.1.now)) read ≡ quoted_at bytes.now) }
 {
@@ -31,7 +31,7 @@ pub fn quoted(alloc: Global, bytes: &[u8]) -> Result<Option<(Bytes, &[u8])>, Mem
 fn content(alloc: Global, bytes: &[u8]) -> Result<Option<(Bytes, &[u8])>, Memory>
     ensures { IfOk result (λ read. option_map (λ p. (p.0, p.1.now)) read ≡ read_quoted bytes.now) }
 {
-    // what is read is no longer than the text that it is read from
+    // What is read is no longer than the text that it is read from.
     let mut made = Vec::with_capacity(alloc, bytes.len())?;
     let mut left = bytes;
     'pieces: loop {

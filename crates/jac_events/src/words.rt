@@ -19,7 +19,7 @@ fn space(bytes: &[u8]) -> Option<usize>
     bytes.iter().position(|byte| *byte == b' ')
 }
 
-/// What follows this byte, where it stands first.
+/// What follows this byte, if it comes first.
 pub fn behind(bytes: &[u8], byte: u8) -> Option<&[u8]>
     ensures { option_map (λ rest. rest.now) result ≡ after_byte byte bytes.now }
 {

@@ -3,7 +3,7 @@ use Rattle.jac_events.specs.Words.{with_byte, read_quoted}
 use Rattle.jac_events.specs.Fronts.{with_front}
 use Rattle.jac_events.proofs.quoted.content.Goals as goal
 
--- a byte may be counted with what was read before it
+-- A byte may be appended to what was read before, or put before what is read from the rest.
 prefixed-push : (made : List ℕ) (b : ℕ) (read : Option (List ℕ × List ℕ)) → with_front (made ++ b ∷ []) read ≡ with_front made (with_byte b read)
 prefixed-push made b None = refl
 prefixed-push made b (Some p) = ap (λ (xs : List ℕ). Some (xs, p.1)) (append_assoc made (b ∷ []) p.0)
