@@ -6,7 +6,7 @@ use Rattle.jac_world.specs.World.{holds}
 use Rattle.jac_facet.specs.Leaves.{leaves_seen}
 use Rattle.jac_expr.specs.Leafed.{last_by}
 
--- after all leaves, what the function gives at the one that is seen
+-- After all leaves, the result is that for the leaf with a guard that holds.
 pub last_leaf : (w : ℕ → Bool) (pc : List (ℕ × Bool)) (f : Value → Value) (d x v : Value) (all leaves : List (List (ℕ × Bool) × Value)) (i : ℕ) →
     all ≡ leaves → length all ≤ i → leaves_seen w leaves ≡ (if holds w pc then v ∷ [] else []) → holds w pc ≡ true →
     last_by f x (leaves_seen w (drop i all)) ≡ last_by f d (leaves_seen w all) → x ≡ f v

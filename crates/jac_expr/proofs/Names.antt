@@ -1,4 +1,4 @@
--- Names in scope, from the innermost out.
+-- Names in scope, from the innermost outward.
 use Rattle.std.proofs.Common.{◌≡◌, refl, ap, ◌∙◌, ℕ, Bool, true, false, List, [], ◌∷◌, ◌++◌, if◌then◌else◌, pos}
 use Rattle.jac_value.specs.declared.value.Value.{Value}
 use Rattle.jac_value.specs.declared.value.Value.TheVariants as value
@@ -24,13 +24,13 @@ look-last w all outer b name e =
     ∙ ap (λ bs. look bs name) (env_at-append w outer (b ∷ []))
     ∙ look_from-last (value.Int (pos 0)) (env_at w outer) (binding b.0 (at w b.1)) name
 
--- the last binding has the name
+-- The last binding has the name.
 pub look-found : (w : ℕ → Bool) (all outer : List (List ℕ × Shape Value)) (b : List ℕ × Shape Value) (name : List ℕ) → all ≡ outer ++ b ∷ [] →
     same_text b.0 name ≡ true → look (env_at w all) name ≡ at w b.1
 look-found w all outer b name e same =
     look-last w all outer b name e ∙ ap (λ c. if c then at w b.1 else look (env_at w outer) name) same
 
--- the last binding has another name
+-- The last binding has another name.
 pub look-passed : (w : ℕ → Bool) (all outer : List (List ℕ × Shape Value)) (b : List ℕ × Shape Value) (name : List ℕ) → all ≡ outer ++ b ∷ [] →
     same_text b.0 name ≡ false → look (env_at w all) name ≡ look (env_at w outer) name
 look-passed w all outer b name e other =

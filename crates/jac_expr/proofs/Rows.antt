@@ -21,7 +21,7 @@ or_none-map : (w : ℕ → Bool) (o : Option (List Row)) → rows_or_none (Rattl
 or_none-map w None = refl
 or_none-map w (Some t) = refl
 
--- the table of a model, projected
+-- The projected table of a model.
 pub rows_of-project : (w : ℕ → Bool) (tables : List (List Row)) (m : ℕ) → rows_of (map (rows_at w) tables) m ≡ rows_at w (rows_of tables m)
 rows_of-project w tables m = ap rows_or_none (slice_get-map (rows_at w) tables m) ∙ or_none-map w (slice_get tables m)
 
@@ -37,7 +37,7 @@ rows_at-if : (w : ℕ → Bool) (b : Bool) (r : Row) (rs : List Row) →
 rows_at-if w true r rs = refl
 rows_at-if w false r rs = refl
 
--- the record of an id is the first of its alternatives that is shown
+-- The record of an id is the first of its alternatives that is shown.
 pub record-is : (w : ℕ → Bool) (id : ℕ) (rows : List Row) → record_with id (rows_at w rows) ≡ first_row (rows_at w (alternatives id rows))
 record-is w id [] = refl
 record-is w id (r ∷ rows) =
@@ -59,7 +59,7 @@ record-shown w id m tables rows e =
     ∙ sym (record-is w id (rows_of tables m))
     ∙ ap (record_with id) (sym (rows_of-project w tables m))
 
--- a field of the record, read from its alternatives
+-- A field of the record, read from its alternatives.
 pub field-shown : (w : ℕ → Bool) (id m field : ℕ) (absent : Value) (tables : List (List Row)) (rows : List Row) → rows ≡ alternatives id (rows_of tables m) →
     field_of field absent (rows_at w rows) ≡ cell_of (record_with id (rows_of (map (rows_at w) tables) m)) field absent
 field-shown w id m field absent tables rows e =
@@ -73,7 +73,7 @@ stood-is : (rows : List PlainRow) → stood_by (value.Bool false) rows ≡ value
 stood-is [] = refl
 stood-is (r ∷ rows) = stood-true rows
 
--- whether the record stands, by its alternatives
+-- Whether the record exists, read from its alternatives.
 pub stands-shown : (w : ℕ → Bool) (id m : ℕ) (tables : List (List Row)) (rows : List Row) → rows ≡ alternatives id (rows_of tables m) →
     stood_by (value.Bool false) (rows_at w rows) ≡ value.Bool (stands (record_with id (rows_of (map (rows_at w) tables) m)))
 stands-shown w id m tables rows e = stood-is (rows_at w rows) ∙ ap (λ r. value.Bool (stands r)) (record-shown w id m tables rows e)
@@ -93,7 +93,7 @@ live-is w (value.Int i) = refl
 live-is w (value.Text t) = refl
 live-is w (value.Bool b) = refl
 
--- a cell that is read at its place
+-- A cell that is read at its place.
 pub got-is : (w : World) (model field : List ℕ) (m f : ℕ) (absent v : Value) → model_place w.models model ≡ Some m → field_place (fields_at w.models m) field ≡ Some f →
     absent ≡ default_value (kind_at w.models (fields_at w.models m) f) → cell_of (referred_record v (rows_of w.tables m)) f absent ≡ got w model field v
 got-is w model field m f absent v of_model of_field default = rw (of_model, of_field, default) refl

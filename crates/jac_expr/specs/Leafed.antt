@@ -1,4 +1,4 @@
--- What is read at the leaves of a facet, and of the rows of a record.
+-- What is read at the leaves of a facet, and from the rows of a record.
 use Rattle.std.specs.Prelude.{ℕ, Bool, true, false, pos, List, [], ◌∷◌, Option, Some, None}
 use Rattle.jac_value.specs.declared.value.Value.{Value}
 use Rattle.jac_value.specs.declared.value.Value.TheVariants as value
@@ -9,27 +9,27 @@ use Rattle.jac_plain.specs.World.{record_with}
 use Rattle.jac_rows.specs.Tables.{rows_of}
 use Rattle.jac_rows.specs.declared.plain.PlainRow.{PlainRow}
 
--- what the function gives at the last value, or another value where there is none
+-- The result of the function for the last value. If there is no value, the other value.
 abbrev pub last_by : (Value → Value) → Value → List Value → Value
 last_by f other [] = other
 last_by f other (v ∷ vs) = last_by f (f v) vs
 
--- the first row
+-- The first row, if there is one.
 abbrev pub first_row : List PlainRow → Option PlainRow
 first_row [] = None
 first_row (r ∷ rs) = Some r
 
--- true where there is a row, else another value
+-- True if there is a row. Otherwise the other value.
 abbrev pub stood_by : Value → List PlainRow → Value
 stood_by other [] = other
 stood_by other (r ∷ rows) = stood_by (value.Bool true) rows
 
--- whether the record that the value refers to is in the tables
+-- Whether the record that the value refers to is in the tables.
 abbrev pub stands_in : List (List PlainRow) → Value → Bool
 stands_in tables (value.Ref (Some id)) = stands (record_with id (rows_of tables (model_of_id id)))
 stands_in tables v = false
 
--- what the facet shows, or 0 where there is none
+-- The value that the facet shows. If there is no facet, 0.
 abbrev pub shown_or_zero : (ℕ → Bool) → Option (Shape Value) → Value
 shown_or_zero w None = value.Int (pos 0)
 shown_or_zero w (Some f) = at w f

@@ -18,28 +18,28 @@ use Rattle.jac_plain.specs.World.{World}
 use Rattle.jac_expr.specs.declared.faceted_context.FacetedContext.{FacetedContext}
 use Rattle.jac_plain.specs.Shown.{world_at}
 
--- the world that an assignment shows here
+-- The world that an assignment shows in this context.
 abbrev pub world_here : FacetedContext → State → (ℕ → Bool) → World
 world_here here s w = world_at here.app.now here.ctx.now s w
 
--- the bindings that an assignment shows
+-- The bindings that an assignment shows.
 abbrev pub env_at : (ℕ → Bool) → List (List ℕ × Shape Value) → List Binding
 env_at w [] = []
 env_at w (b ∷ bs) = binding b.0 (at w b.1) ∷ env_at w bs
 
--- wherever the path condition holds the facet shows the value of the expression
+-- Wherever the path condition holds, the facet shows the value of the expression.
 abbrev pub Means : FacetedContext → State → List (List ℕ × Shape Value) → Expression → Shape Value
     → Type 0
 Means here s env e f = (w : ℕ → Bool) → holds w here.pc.now ≡ true
     → at w f ≡ mean (world_here here s w) e (env_at w env)
 
--- where the work is told afterwards the facet has the value of the expression in its state before
+-- If the state is known afterwards, the facet has the value of the expression in the state before.
 abbrev pub Evaluates : {K : Type 0} → (K → KeeperSeen) → WorkOver K Alterations
     → WorkOver K Alterations → FacetedContext → List (List ℕ × Shape Value)
     → Result (Shape Value) Stop → Expression → Type 0
 Evaluates seen old new here env result e = IsTold seen new
     → IfOk result (Means here (state_of seen old) env e)
 
--- an expression that asks a query
+-- An expression that contains a query.
 abbrev pub query_expression : {T : Type 0} → (List Binder → Expression → Order → T) → Question → T
 query_expression form q = form q.binders q.cond q.order

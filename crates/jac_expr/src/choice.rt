@@ -13,7 +13,8 @@ use jac_world::{Guard, Steps};
 use std::alloc::Global;
 use std::sync::ledger::Ledger;
 
-/// Whether the condition is true, where it is the same wherever the path condition holds.
+/// Whether the condition is true. `None` unless the condition is known to be the same wherever the
+/// path condition holds.
 pub(crate) fn truth_under(
     alloc: Global,
     pc: &Guard,
@@ -36,8 +37,8 @@ fn only_truth(leaves: &[(Guard, Value)]) -> Option<bool>
     }
 }
 
-/// What an `and` or an `or` comes to by its first operand alone, where that is the same wherever
-/// the path condition holds.
+/// The value of an `and` or an `or`, if the first operand decides it. `None` unless that operand is
+/// known to be the same wherever the path condition holds.
 pub(crate) fn decided_under(
     alloc: Global,
     pc: &Guard,
@@ -61,7 +62,7 @@ fn only_decided(op: Op, leaves: &[(Guard, Value)]) -> Option<Value>
     }
 }
 
-// The first facet where the condition is true, else the second.
+// The first facet where the condition is true, and the second elsewhere.
 pub(crate) fn choose<L: Ledger>(
     alloc: Global,
     pc: &Guard,

@@ -11,7 +11,7 @@ use jac_value::{Memory, Txt, Value};
 use std::alloc::Global;
 use std::marker::Model;
 
-/// The names in scope with their faceted values, the innermost last.
+/// The names in scope with their faceted values. The innermost is the last one.
 #[derive(Drop)]
 pub struct Env {
     bindings: Vec<(Txt, Facet<Value>)>,
@@ -70,7 +70,7 @@ impl Env {
         Ok(Env { bindings })
     }
 
-    /// Binds the name inside of all that are bound.
+    /// Adds an innermost binding.
     pub fn push(&mut self, name: Txt, value: Facet<Value>) -> Result<(), Memory>
         ensures ok { OnOk result (self.new ≡ self.old ++ (name, value) ∷ []) }
         ensures err { OnErr result (self.new ≡ self.old) }
@@ -79,7 +79,7 @@ impl Env {
         Ok(())
     }
 
-    /// Leaves the outermost bindings, this many.
+    /// Keeps only the outermost bindings, this many.
     pub fn cut(&mut self, to: usize)
         ensures { self.new ≡ take to self.old }
     {
@@ -87,7 +87,7 @@ impl Env {
     }
 }
 
-// What the name is bound to, or 0.
+// The value of the innermost binding of the name. If there is none, 0.
 pub(crate) fn look_up(alloc: Global, env: &Env, name: &Txt) -> Result<Facet<Value>, Memory>
     ensures { IfOk result (λ f. (w : ℕ → Bool) → at w f ≡ look (env_at w env.now) name.now) }
 {
@@ -97,7 +97,7 @@ pub(crate) fn look_up(alloc: Global, env: &Env, name: &Txt) -> Result<Facet<Valu
     }
 }
 
-// What the name is bound to.
+// The value of the innermost binding of the name, if there is one.
 pub(crate) fn innermost<'e>(
     bindings: &'e [(Txt, Facet<Value>)],
     name: &Txt,

@@ -2,8 +2,7 @@ use jac_lang::App;
 use jac_plain::Ctx;
 use jac_world::Guard;
 
-/// Where something is evaluated: in which application, for which request, and under which path
-/// condition.
+/// The context of an evaluation: the application, the request, and the path condition.
 #[derive(Clone, Copy)]
 pub struct FacetedContext<'h> {
     pub app: &'h App,

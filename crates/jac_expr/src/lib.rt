@@ -1,5 +1,4 @@
-//! The values of expressions and the answers of queries over faceted rows, for all assignments at
-//! once.
+//! Evaluates expressions and queries over guarded rows, for all assignments at once.
 #![tactic(auto)]
 
 mod binding;

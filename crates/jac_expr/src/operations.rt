@@ -1,4 +1,5 @@
-//! Operations on faceted values: under each assignment the operation on the values there.
+//! Operations on faceted values. Under each assignment, the operation is applied to the values
+//! there.
 ghost use Rattle.std.specs.Prelude.{◌≡◌, ℕ, Bool, not, IfOk, ◌++◌, map};
 ghost use Rattle.jac_value.specs.declared.value.Value.TheVariants.{Bool as Truth, Text};
 ghost use Rattle.jac_facet.specs.Shape.{at};
@@ -44,7 +45,7 @@ pub(crate) fn text_leaf(alloc: Global, text: &Txt) -> Result<Facet<Value>, Memor
     Ok(Facet::leaf(Value::Text(text)))
 }
 
-// The text that a page shows of the value.
+// The text of the value, as a page shows it.
 pub(crate) fn spell<L: Ledger>(
     alloc: Global,
     facet: &Facet<Value>,
@@ -55,7 +56,7 @@ pub(crate) fn spell<L: Ledger>(
     Ok(facet.map(alloc, |value| text_value(alloc, value), splits)?)
 }
 
-// The one text and then the other.
+// The two texts, joined.
 pub(crate) fn join<L: Ledger>(
     alloc: Global,
     first: &Facet<Value>,

@@ -1,4 +1,4 @@
-//! Tuples in the order of a field.
+//! Sorts tuples by a field.
 ghost use Rattle.std.specs.Prelude.{◌≡◌, ℕ, Bool, true, [], length, IfOk, IsTrue};
 ghost use Rattle.jac_facet.specs.Shape.{at};
 ghost use Rattle.jac_lang.specs.Mirror.{binders_of};
@@ -25,7 +25,7 @@ use jac_value::{Txt, Value};
 use jac_world::Steps;
 use std::sync::ledger::Ledger;
 
-/// What tuples are put in order by: a field of this binder's records.
+/// The key by which tuples are sorted: a field of this binder's records.
 #[derive(Clone, Copy)]
 struct Key<'k> {
     binders: &'k Binders,
@@ -92,7 +92,7 @@ fn sort_by<K: Keeper, L: Ledger>(
     Ok(order(work.alloc, tuples, &keys, down, splits)?)
 }
 
-// The field of this binder's record, of each tuple.
+// For each tuple, the field of this binder's record.
 fn keys_of<K: Keeper, L: Ledger>(
     work: &mut Work<'_, K>,
     app: &App,
@@ -117,7 +117,7 @@ fn keys_of<K: Keeper, L: Ledger>(
     Ok(Facets::from_vec(keys))
 }
 
-// The field of this binder's record, wherever the tuple holds.
+// The field of this binder's record, wherever the tuple's guard holds.
 fn key_at<K: Keeper, L: Ledger>(
     work: &mut Work<'_, K>,
     app: &App,

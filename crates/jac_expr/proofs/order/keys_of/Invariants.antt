@@ -11,7 +11,7 @@ use Rattle.jac_expr.proofs.Working.{LoopOver}
 use Rattle.jac_expr.proofs.order.keys_of.Given as goal
 use Rattle.jac_plain.specs.Shown.{world_at}
 
--- the keys so far, before those of the tuples that are left, are those of all
+-- The keys so far, followed by those of the tuples that are left, are those of all.
 abbrev pub invariant-tuples : goal.invariant-tuples
 invariant-tuples g l =
     let k = g.K.Keeper in
