@@ -5,7 +5,7 @@ use Rattle.std.proofs.lemmas.Bool.Decides.{nat_tests}
 use Rattle.jac_facet.specs.Shape.{Shape, one, fork, at, Above, IsOrdered}
 use Rattle.jac_facet.proofs.Labels.{above_lower}
 
--- the assignment that shows or hides k, and is w elsewhere
+-- The assignment that gives `k` the value `b`, and every other label the value that `w` gives it.
 abbrev turned : ℕ → Bool → (ℕ → Bool) → ℕ → Bool
 turned k b w j = if j == k then b else w j
 
@@ -13,7 +13,7 @@ itself : (k : ℕ) → (k == k) ≡ true
 itself k = grind (arith, nat_tests)
 
 module _ {T : Type 0} where
-  -- a label below the first changes nothing
+  -- A label below the first doesn't change the value.
   at_turned : (k : ℕ) (b : Bool) (w : ℕ → Bool) (s : Shape T) → Above k s → IsOrdered s → at (turned k b w) s ≡ at w s
   at_turned k b w (one x) a o = refl
   at_turned k b w (fork j h l) a o =
@@ -25,7 +25,7 @@ module _ {T : Type 0} where
   abbrev Alike : Shape T → Shape T → Type 0
   Alike f g = (w : ℕ → Bool) → at w f ≡ at w g
 
-  -- the side that an assignment takes once the label is shown or hidden
+  -- After the label is shown or hidden, the value is that of the high or the low side.
   at_high : (k : ℕ) (w : ℕ → Bool) (h l : Shape T) → Above k h → IsOrdered h → at (turned k true w) (fork k h l) ≡ at w h
   at_high k w h l a o = rw (itself k) (at_turned k true w h a o)
 
@@ -41,7 +41,7 @@ module _ {T : Type 0} where
   turn : (f g : Shape T) → Alike f g → Alike g f
   turn f g alike w = sym (alike w)
 
-  -- a split whose two sides are both equal to one facet isn't ordered
+  -- A split with two sides that are equal to the same facet isn't ordered.
   no_split : (k : ℕ) (h l g : Shape T) → IsOrdered (fork k h l) → h ≡ g → l ≡ g → ⊥
   no_split k h l g o p q = o.4 (p ∙ sym q)
 

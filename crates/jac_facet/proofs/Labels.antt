@@ -10,7 +10,7 @@ pub above_lower : {T : Type 0} (j k : ℕ) (s : Shape T) → j < k → Above k s
 above_lower j k (one x) lt a = tt
 above_lower j k (fork i h l) lt a = omega arith
 
--- a label below the first is nowhere in an ordered facet
+-- A label below the first is nowhere in an ordered facet.
 pub above_absent : {T : Type 0} (k : ℕ) (s : Shape T) → IsOrdered s → Above k s → has_label k s ≡ false
 above_absent k (one x) o a = refl
 above_absent k (fork j h l) o a =
@@ -25,7 +25,7 @@ starts_at k g h p e lt = rw e lt
 differs : (a b : ℕ) → b < a → (a == b) ≡ false
 differs a b h = grind (arith, nat_tests)
 
--- a label below the first is not in a rising guard
+-- A label below the first isn't in a rising guard.
 absent : (k : ℕ) (b : Bool) (g : List (ℕ × Bool)) → StartsAbove k g → IsRising g → has_pair g k b ≡ false
 absent k b [] s r = refl
 absent k b (q ∷ []) s r = rw (differs q.0 k s) refl

@@ -1,4 +1,5 @@
--- A guard with one pair more holds where both hold, and is the only guard that does.
+-- The conjunction of a guard and one pair: it holds if both hold, and no other rising guard holds
+-- under the same assignments.
 use Rattle.std.proofs.Common.{◌≡◌, ℕ, ◌<◌, ◌==◌, ◌&&◌, ◌||◌, Bool, true, false, not, if◌then◌else◌, nat_lt, Option, Some, None, List, [], ◌∷◌, refl, ap, sym, ◌∙◌, inl, inr, suc, arith}
 use Rattle.std.proofs.lemmas.Bool.Decides.{eqb_tells, leb_tells, nat_tests}
 use mathlib.Core.Bool.{beq}
@@ -77,7 +78,7 @@ rising_with k b (p ∷ g) r =
           ])
     ]
 
--- what holds where the guard does and the label has the sign
+-- A rising guard that holds exactly if the guard does and the label has the sign is `guard_where`.
 pub some_where : (g m : List (ℕ × Bool)) (k : ℕ) (b : Bool) → IsRising g → IsRising m → contradict g ((k, b) ∷ []) ≡ false → ((w : ℕ → Bool) → holds w m ≡ both w g ((k, b) ∷ [])) → Some m ≡ guard_where g k b
 some_where g m k b r s n alike =
     rw n (ap Some (same_pairs m (with_pair k b g) s (rising_with k b g r) (λ w. alike w ∙ sym (holds_with w k b g n))))

@@ -27,7 +27,7 @@ module _ {T : Type 0} where
   seen-push w [] p = refl
   seen-push w (q ∷ ps) p = seen_both (holds w q.0) q.1 (leaves_seen w ps) (leaves_seen w (ps ++ p ∷ [])) _ (seen-push w ps p)
 
-  -- with more guards after
+  -- The order after more guards are appended.
   pub before-append : (v w : ℕ → Bool) (old ps : List (List (ℕ × Bool) × T)) → is_shown_before v w (old ++ ps) ≡ (if meets v old || meets w old then is_shown_before v w old else is_shown_before v w ps)
   before-append v w [] ps = refl
   before-append v w (q ∷ old) ps = before_cons (holds v q.0) (holds w q.0) (meets v old) (meets w old) (is_shown_before v w old) (is_shown_before v w ps) (is_shown_before v w (old ++ ps)) (before-append v w old ps)
@@ -44,7 +44,7 @@ leaf_order false false true false o n e = e
 leaf_order false false false true o n e = e
 leaf_order false false false false o n e = e
 
--- where no guard was added
+-- The order if no guard was added.
 pub no_order : (mv mw hv hw o h : Bool) → hv ≡ false → (mv ≡ false → o ≡ false) → o ≡ order_after mv mw hv hw o h
 no_order true mw hv hw o h e n = refl
 no_order false true hv hw o h e n = refl
@@ -68,7 +68,7 @@ fork_bools false false false true x true o h l = refl
 fork_bools false false false true x false o h l = refl
 fork_bools false false false false x y o h l = refl
 
--- the leaves of the high side, and then those of the low side
+-- The order after the leaves of the high side are appended, and then those of the low side.
 pub fork_order : (mv mw m1v m1w hv hw x y o o1 n h l : Bool) → m1v ≡ (mv || (hv && beq true x)) → m1w ≡ (mw || (hw && beq true y)) →
     o1 ≡ order_after mv mw (hv && beq true x) (hw && beq true y) o h → n ≡ order_after m1v m1w (hv && beq false x) (hw && beq false y) o1 l →
     n ≡ order_after mv mw hv hw o (if x then (if y then h else true) else (if y then false else l))

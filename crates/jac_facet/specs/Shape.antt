@@ -2,14 +2,14 @@ use Rattle.std.specs.Prelude.{◌≡◌, ◌≢◌, ℕ, ◌+◌, ◌<◌, max, 
 use Rattle.std.specs.Coded.{Coded, code_by, coded×, coded⊎, coded_list, coded_ℕ}
 use Rattle.std.proofs.Common.{refl, ap, sym, ◌∙◌, append_assoc, append-nil, inl, inr}
 
--- a faceted value: one value, or a label with the value where it is shown and the value where it is
--- hidden
+-- A faceted value: one value, or a label with a faceted value for when it is shown and one for when
+-- it is hidden.
 pub data Shape (T : Type 0) : Type 0 where
   one : T → Shape T
   fork : ℕ → Shape T → Shape T → Shape T
 
 module _ {T : Type 0} where
-  -- the value under an assignment
+  -- The value under an assignment.
   abbrev pub at : (ℕ → Bool) → Shape T → T
   at w (one x) = x
   at w (fork k h l) = if w k then at w h else at w l
@@ -18,12 +18,12 @@ module _ {T : Type 0} where
   depth (one x) = 0
   depth (fork k h l) = max (depth h) (depth l) + 1
 
-  -- the first label, if there is one, is above k
+  -- The first label, if there is one, is above `k`.
   abbrev pub Above : ℕ → Shape T → Type 0
   Above k (one x) = ⊤
   Above k (fork j h l) = k < j
 
-  -- how many splits there are
+  -- The number of splits.
   abbrev pub splits_in : Shape T → ℕ
   splits_in (one x) = 0
   splits_in (fork k h l) = splits_in h + splits_in l + 1
@@ -32,7 +32,7 @@ module _ {T : Type 0} where
   top (one x) = None
   top (fork k h l) = Some k
 
-  -- labels rise strictly on every path, and the sides of a split differ
+  -- Labels rise strictly on every path, and the two sides of each split differ.
   abbrev pub IsOrdered : Shape T → Type 0
   IsOrdered (one x) = ⊤
   IsOrdered (fork k h l) = Above k h × Above k l × IsOrdered h × IsOrdered l × (h ≢ l)
@@ -41,13 +41,13 @@ module _ {T : Type 0} where
   has_label k (one x) = false
   has_label k (fork j h l) = (j == k) || has_label k h || has_label k l
 
-  -- v takes the high side at the first split where the two assignments part
+  -- At the first split at which the assignments take different sides, `v` takes the high side.
   abbrev pub higher : (ℕ → Bool) → (ℕ → Bool) → Shape T → Bool
   higher v w (one x) = false
   higher v w (fork k h l) = if v k then (if w k then higher v w h else true)
       else (if w k then false else higher v w l)
 
-  -- a shape is stored as its leftmost value and its nodes from the top down
+  -- A facet is encoded as its leftmost value and its nodes, from the top down.
   abbrev first_of : Shape T → T
   first_of (one x) = x
   first_of (fork k h l) = first_of h

@@ -11,8 +11,8 @@ use std::alloc::Global;
 use std::sync::ledger::Ledger;
 
 impl<T: Leaf> Facet<T> {
-    /// Under each assignment what the function answers at the value there. Each split of the result
-    /// was counted.
+    /// The facet that has, under each assignment, the function's result for the value of this one.
+    /// Each split of the result is counted.
     pub fn map<U: Leaf, F: Fn(&T) -> Result<U, Memory>, L: Ledger>(
         &self,
         alloc: Global,
@@ -28,8 +28,8 @@ impl<T: Leaf> Facet<T> {
         Ok(mapped)
     }
 
-    /// Under each assignment what the function answers at the two values there. Each split of the
-    /// result was counted.
+    /// The facet that has, under each assignment, the function's result for the values of the two
+    /// facets. Each split of the result is counted.
     pub fn combine<U: Leaf, V: Leaf, F: Fn(&T, &U) -> Result<V, Memory>, L: Ledger>(
         &self,
         alloc: Global,
@@ -105,7 +105,7 @@ impl<T: Leaf> Facet<T> {
     }
 }
 
-// The smaller of the first labels.
+// The smaller of the first labels of the two facets.
 pub(crate) fn first_label<T: Leaf, U: Leaf>(first: &Facet<T>, second: &Facet<U>) -> Option<Label>
     ensures { IsLeast (top first.now) (top second.now) result }
 {

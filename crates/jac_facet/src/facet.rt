@@ -10,18 +10,18 @@ use std::alloc::Global;
 use std::marker::Model;
 use std::sync::ledger::Ledger;
 
-/// How many labels may stand one after the other in a facet. What works on a facet, and its drop,
-/// recurses once for each of them, and the stack must not decide whether that ends: a facet that
-/// would have more is refused as want of memory.
+/// The largest number of labels on a path of a facet. Functions on a facet, and its drop, recurse
+/// once for each label on a path. A facet with a longer path is refused as out of memory, so that
+/// the size of the stack doesn't decide whether they end.
 pub(crate) const MOST_LABELS: u32 = 1024;
 
-/// A faceted value (Austin and Flanagan, POPL 2012): one value, or a label with the value where it
-/// is shown and the value where it is hidden.
+/// A faceted value (Austin and Flanagan, POPL 2012): one value, or a label with two facets, one for
+/// when it is shown and one for when it is hidden.
 #[cycle(facet)]
 #[derive(Drop)]
 pub struct Facet<T> {
     pub(crate) node: Node<T>,
-    // How many labels stand one after the other, on the longest path.
+    // The number of labels on the longest path.
     labels: u32,
 }
 
@@ -62,8 +62,8 @@ impl<T: Leaf> Facet<T> {
         }
     }
 
-    /// High where the label is shown, else low. Equal sides give that side. A facet may have 1,024
-    /// labels one after the other; beyond that it wants memory.
+    /// `high` if the label is shown, or else `low`. If the sides are equal, the result is that
+    /// side. A path of more than 1,024 labels gives `Memory`.
     pub fn split<L: Ledger>(
         alloc: Global,
         label: Label,
@@ -134,7 +134,7 @@ impl<T: Leaf> Facet<T> {
         }
     }
 
-    // The same facet, each of its splits counted.
+    // A copy of the facet. Each of its splits is counted.
     pub(crate) fn counted_copy<L: Ledger>(
         &self,
         alloc: Global,
@@ -163,7 +163,7 @@ impl<T: Leaf> Facet<T> {
         }
     }
 
-    /// A law: labels rise strictly on every path, and the sides of a split differ.
+    /// A law: labels rise strictly on every path, and the two sides of each split differ.
     pub fn keeps_order(&self)
         ensures { IsOrdered self.now }
     {
@@ -182,7 +182,7 @@ impl<T: Leaf> Facet<T> {
         }
     }
 
-    // The first label.
+    // The first label, unless the facet is one value.
     pub(crate) fn top(&self) -> Option<Label>
         ensures top { result ≡ top self.now }
         ensures first { IfSome result (λ k. UpTo k (top self.now)) }
@@ -203,7 +203,7 @@ impl<T: Leaf> Facet<T> {
         }
     }
 
-    // A side where the label is the first, else the facet itself.
+    // The side for `shown` if the label is the first, or else the facet itself.
     pub(crate) fn side(&self, label: Label, shown: bool) -> &Facet<T>
         ensures at { (w : ℕ → Bool) → w label ≡ shown → at w result.now ≡ at w self.now }
         ensures past { UpTo label (top self.now) → Above label result.now }
@@ -218,7 +218,8 @@ impl<T: Leaf> Facet<T> {
         }
     }
 
-    // A side of a facet whose labels aren't below this one, which has the label no more.
+    // The side for `shown` of a facet with no label below this one. The side doesn't have the
+    // label.
     pub(crate) fn side_without(&self, label: Label, shown: bool) -> &Facet<T>
         requires { UpTo label (top self.now) }
         ensures at { (w : ℕ → Bool) → w label ≡ shown → at w result.now ≡ at w self.now }

@@ -3,7 +3,8 @@ ghost use Rattle.std.specs.Prelude.{◌≡◌, true, IfOk};
 use jac_value::{Memory, Value};
 use std::alloc::Global;
 
-/// What a facet holds at its leaves. Two values that are equal by `==` are one value to contracts.
+/// A type of values at the leaves of a facet. Values that are equal by `==` must be one value to
+/// contracts.
 pub trait Leaf: Eq + Drop {
     fn copy(&self, alloc: Global) -> Result<Self, Memory>
         ensures { IfOk result (λ v. v ≡ self.now) };

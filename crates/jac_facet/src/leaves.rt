@@ -11,8 +11,9 @@ use jac_world::{Guard, Label};
 use std::alloc::Global;
 
 impl<T: Leaf> Facet<T> {
-    /// The values that the facet can have where the guard holds, each with the guard under which it
-    /// has it: under each assignment at most one. High sides come first.
+    /// The leaves that the facet can reach if the guard holds, high sides first. Each has its value
+    /// and the guard under which the facet has it. At most one of these guards holds under each
+    /// assignment.
     pub fn leaves_under(&self, alloc: Global, guard: &Guard) -> Result<Leaves<T>, Memory>
         ensures exact { IfOk result (λ ps. ps ≡ leaves_of guard.now self.now) }
         ensures seen { IfOk result (λ ps. (w : ℕ → Bool) → leaves_seen w ps ≡ (if holds w guard.now
@@ -57,7 +58,7 @@ impl<T: Leaf> Facet<T> {
         }
     }
 
-    // The leaves under the guard where the label has this sign.
+    // Appends the leaves for the assignments that meet the guard and give the label this sign.
     #[cycle(leaves)]
     fn add_leaves_where(
         &self,
@@ -92,7 +93,8 @@ impl<T: Leaf> Facet<T> {
     }
 }
 
-// The guard that holds where this one does and the label has the sign.
+// The guard that holds if this one does and the label has the sign, or none if they never hold
+// together.
 fn guard_where(
     alloc: Global,
     guard: &Guard,

@@ -6,7 +6,7 @@ use std::alloc::Global;
 /// A list of facets.
 pub type Facets<T> = List<Facet<T>>;
 
-/// Values with the guards under which they are seen.
+/// Values with the guards under which a facet has them.
 pub type Leaves<T> = List<(Guard, T)>;
 
 impl<T: Leaf> TryClone for Facet<T> {

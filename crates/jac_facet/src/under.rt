@@ -13,8 +13,8 @@ use std::alloc::Global;
 use std::sync::ledger::Ledger;
 
 impl<T: Leaf> Facet<T> {
-    /// The new facet where the guard holds, else the old one. A guard of more labels than a facet
-    /// may have one after the other wants memory.
+    /// `new` if the guard holds, or else `old`. More than 1,024 labels in the guard, or on a path
+    /// of the result, give `Memory`.
     pub fn under<L: Ledger>(
         alloc: Global,
         guard: &Guard,
@@ -34,7 +34,8 @@ impl<T: Leaf> Facet<T> {
         Ok(facet)
     }
 
-    /// The same under every assignment that meets the cut, without the cut's labels.
+    /// The same facet for every assignment that meets the cut. The result has none of the cut's
+    /// labels.
     pub fn prune<L: Ledger>(
         &self,
         alloc: Global,
@@ -105,7 +106,7 @@ impl<T: Leaf> Facet<T> {
         }
     }
 
-    // The first facet where the label has this sign, else the second.
+    // `met` if the label has this sign, or else `unmet`.
     fn split_by_sign<L: Ledger>(
         alloc: Global,
         label: Label,
