@@ -1,4 +1,4 @@
--- What holds of the value that a chain of readings gives, where it gives one.
+-- Properties of the value that a chain of reads gives, if it gives one.
 use Rattle.std.proofs.Common.{◌≡◌, ℕ, ◌+◌, ◌≤◌, Bool, true, false, nat_le, refl, arith, Option, Some, None, List, ◌∷◌, length}
 use Rattle.std.specs.Prelude.{IfSome, if◌then◌else◌}
 use Rattle.std.specs.List.{All}
@@ -13,12 +13,12 @@ use Rattle.jac_forms.specs.declared.fault.FormFault.TheVariants as faults
 use Rattle.jac_forms.specs.declared.fault.Want.{Want}
 use Rattle.jac_forms.specs.declared.fault.What.{What}
 
--- P of the value that is read, if there is one
+-- `P` holds for the value that is read, if there is one.
 abbrev pub IfGot : {A : Type 0} → Read A → (A → Type 0) → Type 0
 IfGot (got x) P = P x
 IfGot (refused fault) P = Unit {0}
 
--- P of what is read of the trees after a head
+-- `P` holds for the value read from the trees after a head.
 pub after : {A : Type 0} (P : A → Type 0) (want : Want) (at : List ℕ) (read : PlainTrees → Read A) (o : Option PlainTrees) → ((ts : PlainTrees) → IfGot (read ts) P) → IfGot (read_behind want at read o) P
 after P want at read None k = tt
 after P want at read (Some ts) k = k ts
@@ -27,12 +27,12 @@ pub placed : {A : Type 0} (P : A → Type 0) (want : Want) (at : List ℕ) (o : 
 placed P want at None h = tt
 placed P want at (Some x) h = h
 
--- nothing is known of the first value
+-- Nothing is known about the first value.
 pub freely : {A B : Type 0} (Q : B → Type 0) (f : A → Read B) (o : Read A) → ((x : A) → IfGot (f x) Q) → IfGot (read_and_then f o) Q
 freely Q f (refused fault) k = tt
 freely Q f (got x) k = k x
 
--- P holds of the first value
+-- `P` holds for the first value.
 pub chained : {A B : Type 0} (P : A → Type 0) (Q : B → Type 0) (f : A → Read B) (o : Read A) → IfGot o P → ((x : A) → P x → IfGot (f x) Q) → IfGot (read_and_then f o) Q
 chained P Q f (refused fault) h k = tt
 chained P Q f (got x) h k = k x h
@@ -60,7 +60,7 @@ either P false o p h k = k
 pub within : {A : Type 0} (P : A → Type 0) (what : What) (at : List ℕ) (most n : ℕ) (o : Read A) → (n ≤ most → IfGot o P) → IfGot (up_to what at most n o) P
 within P what at most n o h = where_true P (nat_le n most) o (faults.TooMany at what n) (λ e. h (grind (arith, nat_tests)))
 
--- what is read of each tree of a list
+-- `P` holds for the value read from each tree of a list, and there are as many values as trees.
 pub each : {A : Type 0} (P : A → Type 0) (read : List ℕ → PlainTree → Read A) → ((at : List ℕ) (t : PlainTree) → IfGot (read at t) P)
     → (at : List ℕ) (k : ℕ) (ts : PlainTrees) → IfGot (each_in_trees read at k ts) (λ xs. All P xs × (length xs ≡ count ts))
 each P read one at k PlainTrees.none = (All-nil P, refl)

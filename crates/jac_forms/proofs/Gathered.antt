@@ -7,18 +7,18 @@ use Rattle.jac_forms.specs.Places.{child}
 use Rattle.jac_forms.specs.Reads.{Read, got, refused, read_map}
 use Rattle.jac_forms.specs.Applications.{Items, items, after_model, is_headed, headed_count, items_in_trees, entity_in_tree}
 
--- models, before those of the items
+-- The models, and then those of the items.
 abbrev pub models_before : List Entity → Items → Items
 models_before ms is = items (ms ++ is.models) is.views
 
--- the items of these trees, with the models so far before them
+-- The models so far, and then the items of these trees.
 abbrev pub gathered : List Entity → List ℕ → ℕ → PlainTrees → Read Items
 gathered done at k ts = read_map (models_before done) (items_in_trees at k ts)
 
 pub headed-more : (word : List ℕ) (t : PlainTree) (ts : PlainTrees) → is_headed word t ≡ true → headed_count word (PlainTrees.more t ts) ≡ headed_count word ts + 1
 headed-more word t ts head = rw head refl
 
--- the tree `t`, which is child k, is the model `m`
+-- The tree `t`, which is child `k`, represents the model `m`.
 pub gathered-more : (done new : List Entity) (m : Entity) (at : List ℕ) (k next : ℕ) (path : List ℕ) (t : PlainTree) (ts : PlainTrees) (all : Read Items) → new ≡ done ++ m ∷ []
     → next ≡ k + 1 → path ≡ child at k → is_headed (codes "model") t ≡ true → entity_in_tree path t ≡ got m
     → gathered done at k (PlainTrees.more t ts) ≡ all → gathered new at next ts ≡ all

@@ -1,4 +1,4 @@
--- A query of the shape that it should have.
+-- A query of the right shape.
 use Rattle.std.proofs.Common.{◌≡◌, ℕ, List, true, refl}
 use Rattle.std.specs.Prelude.{codes}
 use Rattle.jac_tree.specs.Plain.{PlainTree, PlainTrees, is_word}

@@ -1,11 +1,11 @@
--- Sites that are counted.
+-- The numbering of sites.
 use Rattle.std.proofs.Common.{◌≡◌, ℕ, zero, suc, ◌+◌, ◌≤◌, sym, ◌∙◌, ap, arith, List, [], ◌∷◌, ◌++◌, length}
 use Rattle.std.specs.Prelude.{min}
 use Rattle.std.specs.List.{range_with_len}
 use Rattle.std.proofs.lemmas.List.FromFn.{length-range_with_len}
 use Rattle.jac_forms.specs.Statements.{next_site}
 
--- where the last site is one that a view may have, these are the sites from n on, up to the next
+-- If `next` is at most 64, the sites are the numbers from `n` up to `next`, without `next`.
 abbrev pub Spans : ℕ → ℕ → List ℕ → Type 0
 Spans n next sites = next ≤ 64 → (k : ℕ) × (n + k ≡ next) × (sites ≡ range_with_len n k)
 

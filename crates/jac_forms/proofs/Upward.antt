@@ -1,10 +1,10 @@
--- Child numbers, gathered from a tree up to the root.
+-- Child numbers, gathered from a tree upward to the root.
 use Rattle.std.proofs.Common.{◌≡◌, ℕ, sym, ◌∙◌, ap, List, [], ◌∷◌, ◌++◌, append_assoc}
 use Rattle.std.specs.Prelude.{reverse}
 use Rattle.std.proofs.lemmas.List.{append-nil, reverse-append}
 use Rattle.jac_forms.specs.Places.{child}
 
--- those still above, before those gathered
+-- The numbers that are still above, and then those gathered, in reverse order.
 abbrev pub upward : List ℕ → List ℕ → List ℕ
 upward up gathered = up ++ reverse gathered
 

@@ -1,4 +1,4 @@
--- What is read as an application is one that is written.
+-- Each application that is read is a written one.
 use Rattle.std.proofs.Common.{◌≡◌, ℕ, ◌+◌, ◌<◌, ◌≤◌, ◌^◌, Bool, true, false, not, nat_le, nat_lt, refl, subst, arith, Option, Some, None, List, [], length}
 use Rattle.std.specs.Prelude.{IfSome, IsTrue, if◌then◌else◌, codes}
 use Rattle.std.specs.List.{All}
@@ -93,7 +93,7 @@ guards-written at t = after AreGuards wants.Guard at (some_guards at) (tail_of (
 policy-written : (at : List ℕ) (t : PlainTree) → IfGot (policy_in_tree at t) IsWrittenExpression
 policy-written at t = after IsWrittenExpression wants.Policy at (one_in_trees wants.Policy at) (tail_of (codes "policy") t) (one-written wants.Policy at)
 
--- guards stand exactly where the record isn't hidden
+-- There are guards exactly if the record isn't hidden.
 record IsGuarding (g : Guarding) : Type 0 where
   some : nat_lt 0 (length g.guards) ≡ not g.hides
   guards : All IsWrittenAssigned g.guards
@@ -165,7 +165,7 @@ page_parts-written at (PlainTrees.more m (PlainTrees.more p PlainTrees.none)) = 
 view-written : (at : List ℕ) (t : PlainTree) → IfGot (page_in_tree at t) IsWrittenView
 view-written at t = after IsWrittenView wants.Item at (page_in_trees at) (tail_of (codes "view") t) (page_parts-written at)
 
--- the models are as many as the lists with their head, or fewer
+-- There are at most as many models as lists with the head `model`.
 pub record AreItems (most : ℕ) (is : Items) : Type 0 where
   pub few : length is.models ≤ most
   pub models : All IsWrittenModel is.models
@@ -199,7 +199,7 @@ items-written at j (PlainTrees.more t ts) = split (is_headed (codes "model") t) 
         record { few = omega arith; models = All-cons IsWrittenModel m is.models h k.models; views = k.views })))
     split false e rest = rw e (views-written at j (headed_count (codes "model") ts) (PlainTrees.more t ts))
 
--- an application of few views is written
+-- The application is a written one if it has fewer than 2^32 views.
 abbrev IsMostly : Application → Type 0
 IsMostly a = length a.views < 2 ^ 32 → IsWritten a
 
@@ -227,6 +227,6 @@ all-written at ts = within IsMostly whats.Models at 64 (headed_count (codes "mod
 pub application-written : (at : List ℕ) (t : PlainTree) → IfGot (application_in_tree at t) IsMostly
 application-written at t = after IsMostly wants.App at (application_in_trees at) (tail_of (codes "app") t) (all-written at)
 
--- the application that a tree writes is written, where its views are few
+-- The application that a tree represents is a written one if it has fewer than 2^32 views.
 pub is-written : (t : PlainTree) (a : Application) → application_in_tree [] t ≡ got a → length a.views < 2 ^ 32 → IsWritten a
 is-written t a e = subst (λ (o : Read Application). IfGot o IsMostly) e (application-written [] t)

@@ -1,4 +1,4 @@
--- What is read as an expression or a query is one that is written.
+-- Each expression or query that is read is a written one.
 use Rattle.std.proofs.Common.{◌≡◌, ℕ, ℤ, ◌+◌, true, false, nat_le, refl, arith, Option, Some, None, List, ◌∷◌, length}
 use Rattle.std.specs.Prelude.{codes}
 use Rattle.std.specs.List.{All}
@@ -105,7 +105,7 @@ question-written most bs c o h k l =
     chained IsWrittenExpression (IsWrittenQuestion most) (λ cond. read_map (question binders cond) o) c k (λ cond q.
     mapped IsWrittenOrder (IsWrittenQuestion most) (question binders cond) o l (λ order r. (p, q, r))))
 
--- the operands of a form, in each way that some form takes them
+-- The operands of a form, read in each way in which some form takes them.
 record AreOperands (operands : Operands) : Type 0 where
   none_of : IfGot operands.none_of IsWrittenExpression
   one : IfGot operands.one IsWrittenExpression

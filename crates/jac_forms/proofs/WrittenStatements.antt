@@ -1,4 +1,5 @@
--- What is read as statements is written, and the sites of its `create` statements are counted.
+-- Statements that are read are written ones, and the sites of their `create` statements are
+-- numbered.
 use Rattle.std.proofs.Common.{◌≡◌, ℕ, ◌+◌, refl, Option, Some, None, List, [], length}
 use Rattle.std.specs.Prelude.{codes}
 use Rattle.std.specs.List.{All}
@@ -34,7 +35,7 @@ set-written at t =
     after (All IsWrittenAssigned) wants.Set at (each_in_trees (assigned_in_tree wants.Cell) at 1) (tail_of (codes "set") t) (λ ts.
     weaker (λ cells. All IsWrittenAssigned cells × (length cells ≡ count ts)) (All IsWrittenAssigned) (each_in_trees (assigned_in_tree wants.Cell) at 1 ts) (all-assigned wants.Cell at ts) (λ cells h. h.0))
 
--- a statement without sites
+-- A statement without sites.
 abbrev pub IsPlainStep : Statement → Type 0
 IsPlainStep s = IsWrittenStatement s × (sites_in s ≡ [])
 
@@ -75,14 +76,14 @@ single-written at ts singles.Missing = missing-written at ts
 single-written at ts singles.Redirect = mapped IsWrittenExpression IsPlainStep Statement.redirect (one_in_trees wants.Statement at ts) (one-written wants.Statement at ts) (λ e h. (h, refl))
 single-written at ts singles.Template = template-written at ts
 
--- the statement is written, and its sites are counted from n
+-- The statement is a written one, and its sites are numbered from `n`.
 abbrev pub IsNumbered : ℕ → Numbered → Type 0
 IsNumbered n s = IsWrittenStatement s.statement × Spans n s.next (sites_in s.statement)
 
 abbrev pub AreNumbered : ℕ → Body → Type 0
 AreNumbered n b = AreWrittenStatements b.statements × Spans n b.next (sites b.statements)
 
--- what stands after the head, in each way that some statement takes it
+-- The trees after the head, read in each way in which some statement takes them.
 record AreOperands (operands : StatementOperands) : Type 0 where
   single : (one : Single) → IfGot (operands.single one) IsPlainStep
   bind : (n : ℕ) → IfGot (operands.bind n) (IsNumbered n)

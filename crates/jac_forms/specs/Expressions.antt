@@ -20,7 +20,7 @@ use Rattle.jac_forms.specs.declared.queries.Most.TheVariants as mosts
 use Rattle.jac_forms.specs.declared.words.Form.{Form}
 use Rattle.jac_forms.specs.declared.words.Form.TheVariants as forms
 
--- the word of a form with two operands
+-- The operation of a form with two operands, by its word.
 abbrev pub op_of : List ℕ → Option Op
 op_of a =
     if bytes_eq a (codes "add") then Some ops.Add else
@@ -31,7 +31,7 @@ op_of a =
     if bytes_eq a (codes "and") then Some ops.And else
     if bytes_eq a (codes "or") then Some ops.Or else None
 
--- the word of a form with a query
+-- The form with a query that begins with this word.
 abbrev pub asking_of : List ℕ → Option Form
 asking_of a =
     if bytes_eq a (codes "count") then Some forms.Count else
@@ -39,7 +39,7 @@ asking_of a =
     if bytes_eq a (codes "some") then Some forms.AnyOf else
     if bytes_eq a (codes "first") then Some forms.First else None
 
--- the word of any other form
+-- Any other form that begins with this word.
 abbrev pub plain_form_of : List ℕ → Option Form
 plain_form_of a =
     if bytes_eq a (codes "none") then Some forms.NoneOf else
@@ -50,7 +50,7 @@ plain_form_of a =
     if bytes_eq a (codes "str") then Some forms.Str else
     if bytes_eq a (codes "pick") then Some forms.Pick else asking_of a
 
--- the form that a word begins
+-- The form that begins with this word.
 abbrev pub form_of_op : List ℕ → Option Op → Option Form
 form_of_op a (Some op) = Some (forms.Two op)
 form_of_op a None = plain_form_of a
@@ -58,12 +58,12 @@ form_of_op a None = plain_form_of a
 abbrev pub form_of_word : List ℕ → Option Form
 form_of_word a = form_of_op a (op_of a)
 
--- the form of a list with this head
+-- The form of a list with this head.
 abbrev pub form_of : PlainTree → Option Form
 form_of (PlainTree.atom a) = form_of_word a
 form_of t = None
 
--- an atom as an expression: a reserved word, an integer or a name
+-- An atom as an expression: a reserved word, an integer or a name.
 abbrev pub number_or_name : List ℕ → List ℕ → Option ℤ → Read Expression
 number_or_name at a (Some i) = got (Expression.int i)
 number_or_name at a None = read_map Expression.name (name_read wants.Expression at a)
@@ -79,7 +79,7 @@ atom_expression at a =
 abbrev pub binder : List ℕ → List ℕ → Binder
 binder name model = record { name = name; model = model }
 
--- `(NAME NAME)`
+-- `(NAME NAME)`.
 abbrev pub binder_in_tree : List ℕ → PlainTree → Read Binder
 binder_in_tree at (PlainTree.list (PlainTrees.more x (PlainTrees.more m PlainTrees.none))) =
     read_and_then (λ name. read_map (binder name) (name_in_tree (child at 1) m))
@@ -92,12 +92,12 @@ binders_in_trees at k (PlainTrees.more t ts) =
     read_and_then (λ b. read_map (λ bs. b ∷ bs) (binders_in_trees at (k + 1) ts))
     (binder_in_tree (child at k) t)
 
--- how many binders a query may have
+-- The largest number of binders that a query may have.
 abbrev pub most_binders : Most → ℕ
 most_binders mosts.One = 1
 most_binders mosts.Three = 3
 
--- one or more binders, up to `most`
+-- One or more binders, up to `most`.
 abbrev pub some_binders : ℕ → List ℕ → PlainTrees → Read (List Binder)
 some_binders most at ts =
     if nat_le (count ts) 0 then wrong wants.Binder at else up_to whats.Binders at most (count ts)
@@ -107,12 +107,12 @@ abbrev pub binders_in_tree : ℕ → List ℕ → PlainTree → Read (List Binde
 binders_in_tree most at (PlainTree.list ts) = some_binders most at ts
 binders_in_tree most at t = wrong wants.Binder at
 
--- where only one binder may stand, more of them make no query
+-- If at most one binder is allowed, a longer list of binders makes the tree no query.
 abbrev pub has_few : ℕ → PlainTree → Bool
 has_few most (PlainTree.list ts) = if nat_le most 1 then nat_le (count ts) most else true
 has_few most t = true
 
--- a binder and its field, by which answers are sorted
+-- A binder, and the field by which results are sorted.
 pub record SortKey : Type 0 where
   pub binder : List ℕ
   pub field : List ℕ
@@ -130,7 +130,7 @@ rising key = orders.Up key.binder key.field
 abbrev pub falling : SortKey → Order
 falling key = orders.Down key.binder key.field
 
--- `(up NAME NAME)` or `(down NAME NAME)`
+-- `(up NAME NAME)` or `(down NAME NAME)`.
 abbrev pub sorting_in_trees : List ℕ → PlainTrees → Read Order
 sorting_in_trees at (PlainTrees.more w (PlainTrees.more x (PlainTrees.more f PlainTrees.none))) =
     if is_word (codes "up") w then read_map rising (key_of_sort at x f) else if is_word
@@ -138,7 +138,7 @@ sorting_in_trees at (PlainTrees.more w (PlainTrees.more x (PlainTrees.more f Pla
     then read_map falling (key_of_sort at x f) else wrong wants.Order at
 sorting_in_trees at ts = wrong wants.Order at
 
--- `key`, or a field of a binder, rising or falling
+-- `key`, or a field of a binder, rising or falling.
 abbrev pub order_in_tree : List ℕ → PlainTree → Read Order
 order_in_tree at (PlainTree.atom a) = if bytes_eq a (codes "key") then got orders.Key
     else wrong wants.Order at
@@ -148,12 +148,12 @@ order_in_tree at (PlainTree.list ts) = sorting_in_trees at ts
 abbrev pub question : List Binder → Expression → Order → Question
 question bs c o = record { binders = bs; cond = c; order = o }
 
--- the first fault of the three, from the left
+-- The query of the three parts, or the first fault in them, from the left.
 abbrev pub question_if : Read (List Binder) → Read Expression → Read Order → Read Question
 question_if bs c o =
     read_and_then (λ binders. read_and_then (λ cond. read_map (question binders cond) o) c) bs
 
--- the forms with a query
+-- The expressions of the forms with a query.
 abbrev pub count_expression : Question → Expression
 count_expression q = Expression.count q.binders q.cond q.order
 
@@ -166,13 +166,13 @@ any_expression q = Expression.any_of q.binders q.cond q.order
 abbrev pub first_expression : Question → Expression
 first_expression q = Expression.first q.binders q.cond q.order
 
--- `(none NAME)`
+-- `(none NAME)`.
 abbrev pub none_in_trees : List ℕ → PlainTrees → Read Expression
 none_in_trees at (PlainTrees.more m PlainTrees.none) = read_map Expression.none_of
     (name_in_tree (child at 1) m)
 none_in_trees at ts = wrong wants.Expression at
 
--- the operands of a form, read in each way that some form takes them
+-- The operands of a form, read in each way in which some form takes them.
 pub record Operands : Type 0 where
   pub none_of : Read Expression
   pub one : Read Expression
@@ -183,7 +183,7 @@ pub record Operands : Type 0 where
   pub asked : ℕ → Read Question
   pub sum : Read Expression
 
--- a form with its operands
+-- The expression of a form with its operands.
 abbrev pub expression_of_form : List ℕ → Option Form → Operands → Read Expression
 expression_of_form at None operands = wrong wants.Expression at
 expression_of_form at (Some forms.NoneOf) operands = operands.none_of
@@ -199,16 +199,16 @@ expression_of_form at (Some forms.Sum) operands = operands.sum
 expression_of_form at (Some forms.AnyOf) operands = read_map any_expression (operands.asked 3)
 expression_of_form at (Some forms.First) operands = read_map first_expression (operands.asked 3)
 
--- Each definition takes the path of its tree; one of operands takes the path of the list that they
--- stand in, where they are the children from 1 on.
+-- Each definition takes the path of its tree. A definition for operands takes the path of the list
+-- that contains them. They are its children from 1 on.
 abbrev mutual
-  -- an expression
+  -- An expression.
   pub expression_in_tree : List ℕ → PlainTree → Read Expression
   expression_in_tree at (PlainTree.atom a) = atom_expression at a
   expression_in_tree at (PlainTree.text x) = got (Expression.text x)
   expression_in_tree at (PlainTree.list ts) = expression_in_list at ts
 
-  -- a list, which begins with the word of its form
+  -- A list, which begins with the word of its form.
   pub expression_in_list : List ℕ → PlainTrees → Read Expression
   expression_in_list at PlainTrees.none = wrong wants.Expression at
   expression_in_list at (PlainTrees.more head ts) =
@@ -223,19 +223,19 @@ abbrev mutual
         sum = sum_in_trees at ts;
       })
 
-  -- one expression
+  -- One expression.
   pub one_in_trees : Want → List ℕ → PlainTrees → Read Expression
   one_in_trees want at (PlainTrees.more a PlainTrees.none) = expression_in_tree (child at 1) a
   one_in_trees want at ts = wrong want at
 
-  -- two
+  -- Two expressions.
   pub two_in_trees : List ℕ → PlainTrees → Op → Read Expression
   two_in_trees at (PlainTrees.more a (PlainTrees.more b PlainTrees.none)) op =
       read_and_then (λ x. read_map (Expression.two op x) (expression_in_tree (child at 2) b))
       (expression_in_tree (child at 1) a)
   two_in_trees at ts op = wrong wants.Expression at
 
-  -- a condition and two choices
+  -- A condition and two choices.
   pub pick_in_trees : List ℕ → PlainTrees → Read Expression
   pick_in_trees at (PlainTrees.more c (PlainTrees.more a (PlainTrees.more b PlainTrees.none))) =
       read_and_then (λ x. read_and_then (λ y. read_map (Expression.pick x y)
@@ -243,7 +243,7 @@ abbrev mutual
       (expression_in_tree (child at 1) c)
   pick_in_trees at ts = wrong wants.Expression at
 
-  -- a model, a field and the reference
+  -- A model, a field and the reference.
   pub get_in_trees : List ℕ → PlainTrees → Read Expression
   get_in_trees at (PlainTrees.more m (PlainTrees.more f (PlainTrees.more e PlainTrees.none))) =
       read_and_then (λ model. read_and_then (λ field. read_map (Expression.get model field)
@@ -251,19 +251,19 @@ abbrev mutual
       (name_in_tree (child at 1) m)
   get_in_trees at ts = wrong wants.Expression at
 
-  -- any number, of which the first is child k
+  -- Any number of expressions. The first is child `k`.
   pub expressions_in_trees : List ℕ → ℕ → PlainTrees → Read Expressions
   expressions_in_trees at k PlainTrees.none = got Expressions.none
   expressions_in_trees at k (PlainTrees.more t ts) =
       read_and_then (λ e. read_map (Expressions.more e) (expressions_in_trees at (k + 1) ts))
       (expression_in_tree (child at k) t)
 
-  -- one query, of up to `most` binders
+  -- One query with up to `most` binders.
   pub query_in_trees : List ℕ → PlainTrees → ℕ → Read Question
   query_in_trees at (PlainTrees.more q PlainTrees.none) most = question_in_tree most (child at 1) q
   query_in_trees at ts most = wrong wants.Expression at
 
-  -- a query of one binder and an expression
+  -- A query of one binder and an expression.
   pub sum_in_trees : List ℕ → PlainTrees → Read Expression
   sum_in_trees at (PlainTrees.more q (PlainTrees.more e PlainTrees.none)) =
       read_and_then (λ any_expression. read_map (sum_expression any_expression) (expression_in_tree
@@ -271,7 +271,7 @@ abbrev mutual
       (question_in_tree 1 (child at 1) q)
   sum_in_trees at ts = wrong wants.Expression at
 
-  -- `(from ((NAME NAME)+) expression order)` of up to `most` binders
+  -- `(from ((NAME NAME)+) expression order)` with up to `most` binders.
   pub question_in_tree : ℕ → List ℕ → PlainTree → Read Question
   question_in_tree most at
       (PlainTree.list
@@ -297,7 +297,7 @@ operands_of at ts = record {
   sum = sum_in_trees at ts;
 }
 
--- the expression, and the query of up to `most` binders, that a tree writes
+-- The expression that a tree represents. Below: the query with up to `most` binders.
 abbrev pub expression_of_tree : PlainTree → Option Expression
 expression_of_tree t = value_of (expression_in_tree [] t)
 

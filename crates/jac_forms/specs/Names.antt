@@ -7,7 +7,7 @@ use Rattle.jac_forms.specs.Reads.{Read, got, wrong, read_map, read_and_then, val
 use Rattle.jac_forms.specs.declared.fault.Want.{Want}
 use Rattle.jac_forms.specs.declared.fault.Want.TheVariants as wants
 
--- what is read of each tree, of which the first is child k of the list at this path
+-- What is read from each tree. The first tree is child `k` of the list at this path.
 abbrev pub each_in_trees : {A : Type 0} → (List ℕ → PlainTree → Read A) → List ℕ → ℕ → PlainTrees
     → Read (List A)
 each_in_trees read at k PlainTrees.none = got []
@@ -15,15 +15,15 @@ each_in_trees read at k (PlainTrees.more t ts) =
     read_and_then (λ first. read_map (λ rest. first ∷ rest) (each_in_trees read at (k + 1) ts))
     (read (child at k) t)
 
--- the bytes, where they are a name
+-- The bytes, if they are a name.
 abbrev pub name_read : Want → List ℕ → List ℕ → Read (List ℕ)
 name_read want at a = if is_name a then got a else wrong want at
 
--- the name that a tree is
+-- The name that a tree represents.
 abbrev pub name_in_tree : List ℕ → PlainTree → Read (List ℕ)
 name_in_tree at (PlainTree.atom a) = name_read wants.Name at a
 name_in_tree at t = wrong wants.Name at
 
--- the same, where no fault is asked
+-- The same, without the fault.
 abbrev pub name_of_tree : PlainTree → Option (List ℕ)
 name_of_tree t = value_of (name_in_tree [] t)

@@ -2,11 +2,11 @@
 use Rattle.std.specs.Prelude.{ℕ, List, [], ◌∷◌, ◌++◌}
 use Rattle.jac_forms.specs.declared.place.Place.{Place, Top, Child'}
 
--- the number after those of the list
+-- The path of a child: the path of its list, and then the child's number.
 abbrev pub child : List ℕ → ℕ → List ℕ
 child at number = at ++ number ∷ []
 
--- the child numbers from the root
+-- The child numbers from the root to the tree.
 abbrev pub path_of : Place → List ℕ
 path_of Top = []
 path_of (Child' p up number) = child (path_of up) number

@@ -10,11 +10,11 @@ pub data Read (A : Type 0) : Type 0 where
   got : A → Read A
   refused : FormFault → Read A
 
--- the tree at this path isn't what should stand there
+-- The tree at this path isn't what is wanted there.
 abbrev pub wrong : {A : Type 0} → Want → List ℕ → Read A
 wrong want at = refused (faults.Form at want)
 
--- the tree at this path has so many of these, too many
+-- The tree at this path has this many of these, which is too many.
 abbrev pub many : {A : Type 0} → What → List ℕ → ℕ → Read A
 many what at have = refused (faults.TooMany at what have)
 
@@ -26,22 +26,22 @@ abbrev pub read_and_then : {A B : Type 0} → (A → Read B) → Read A → Read
 read_and_then f (got x) = f x
 read_and_then f (refused fault) = refused fault
 
--- what is read, where there are at most so many
+-- The result of reading, if there are at most `most`.
 abbrev pub up_to : {A : Type 0} → What → List ℕ → ℕ → ℕ → Read A → Read A
 up_to what at most n read = if nat_le n most then read else many what at n
 
--- the value, where there should be one
+-- The value, if there is one.
 abbrev pub got_where : {A : Type 0} → Want → List ℕ → Option A → Read A
 got_where want at (Some x) = got x
 got_where want at None = wrong want at
 
--- what is read of the trees after a head, where it is there
+-- What is read from the trees after a head, if the tree has that head.
 abbrev pub read_behind : {A : Type 0} → Want → List ℕ → (PlainTrees → Read A) → Option PlainTrees
     → Read A
 read_behind want at read (Some ts) = read ts
 read_behind want at read None = wrong want at
 
--- the value, where there is no fault
+-- The value, if there is no fault.
 abbrev pub value_of : {A : Type 0} → Read A → Option A
 value_of (got x) = Some x
 value_of (refused fault) = None

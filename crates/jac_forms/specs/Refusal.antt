@@ -3,7 +3,7 @@ use Rattle.std.specs.Prelude.{Bool, true, false}
 use Rattle.jac_forms.specs.declared.fault.FormFault.{FormFault}
 use Rattle.jac_forms.specs.declared.fault.FormFault.TheVariants as faults
 
--- the text is refused, and not for want of memory
+-- The fault is a reason to refuse the text. Out of memory isn't.
 abbrev pub refuses : FormFault → Bool
 refuses faults.Memory = false
 refuses fault = true

@@ -14,7 +14,7 @@ use Rattle.jac_forms.specs.declared.steps.Single.TheVariants as singles
 use Rattle.jac_forms.specs.declared.steps.Step.{Step}
 use Rattle.jac_forms.specs.declared.steps.Step.TheVariants as steps
 
--- the word of a statement that has no statements inside
+-- The statement that begins with this word and has no statements inside.
 abbrev pub single_of : List ℕ → Option Single
 single_of a =
     if bytes_eq a (codes "put") then Some singles.Put else
@@ -26,7 +26,7 @@ single_of a =
     if bytes_eq a (codes "redirect") then Some singles.Redirect else
     if bytes_eq a (codes "template") then Some singles.Template else None
 
--- the word of one that has
+-- The statement that begins with this word and has statements inside.
 abbrev pub step_around : List ℕ → Option Step
 step_around a =
     if bytes_eq a (codes "let") then Some steps.Let else
@@ -41,7 +41,7 @@ step_or_single a None = step_around a
 abbrev pub step_of_word : List ℕ → Option Step
 step_of_word a = step_or_single a (single_of a)
 
--- the statement that a list with this head is
+-- The kind of statement that a list with this head represents.
 abbrev pub step_of : PlainTree → Option Step
 step_of (PlainTree.atom a) = step_of_word a
 step_of t = None
@@ -49,26 +49,26 @@ step_of t = None
 abbrev pub assigned_field : List ℕ → Expression → Assigned
 assigned_field field value = record { field = field; value = value }
 
--- `(NAME expression)`; what is none is a fault of `want`
+-- `(NAME expression)`. Anything else is a fault with `want`.
 abbrev pub assigned_in_tree : Want → List ℕ → PlainTree → Read Assigned
 assigned_in_tree want at (PlainTree.list (PlainTrees.more f (PlainTrees.more e PlainTrees.none))) =
     read_and_then (λ field. read_map (assigned_field field) (expression_in_tree (child at 1) e))
     (name_in_tree (child at 0) f)
 assigned_in_tree want at t = wrong want at
 
--- `(set (NAME expression) ..)`
+-- `(set (NAME expression) ..)`.
 abbrev pub set_in_tree : List ℕ → PlainTree → Read (List Assigned)
 set_in_tree at t = read_behind wants.Set at (each_in_trees (assigned_in_tree wants.Cell) at 1)
     (tail_of (codes "set") t)
 
--- a name and an expression
+-- A name and an expression.
 abbrev pub assign_in_trees : List ℕ → PlainTrees → Read Statement
 assign_in_trees at (PlainTrees.more x (PlainTrees.more e PlainTrees.none)) =
     read_and_then (λ name. read_map (Statement.assign name) (expression_in_tree (child at 2) e))
     (name_in_tree (child at 1) x)
 assign_in_trees at ts = wrong wants.Statement at
 
--- a model, a reference and a set
+-- A model, a reference and a set.
 abbrev pub update_in_trees : List ℕ → PlainTrees → Read Statement
 update_in_trees at (PlainTrees.more m (PlainTrees.more e (PlainTrees.more s PlainTrees.none))) =
     read_and_then (λ model. read_and_then (λ target. read_map (Statement.update model target)
@@ -76,7 +76,7 @@ update_in_trees at (PlainTrees.more m (PlainTrees.more e (PlainTrees.more s Plai
     (name_in_tree (child at 1) m)
 update_in_trees at ts = wrong wants.Statement at
 
--- a model and a reference
+-- A model and a reference.
 abbrev pub delete_in_trees : List ℕ → PlainTrees → Read Statement
 delete_in_trees at (PlainTrees.more m (PlainTrees.more e PlainTrees.none)) =
     read_and_then (λ model. read_map (Statement.delete model) (expression_in_tree (child at 2) e))
@@ -87,7 +87,7 @@ abbrev pub missing_in_trees : List ℕ → PlainTrees → Read Statement
 missing_in_trees at PlainTrees.none = got Statement.missing
 missing_in_trees at ts = wrong wants.Statement at
 
--- a text
+-- A text.
 abbrev pub template_in_trees : List ℕ → PlainTrees → Read Statement
 template_in_trees at (PlainTrees.more (PlainTree.text x) PlainTrees.none) =
     got (Statement.template x)
@@ -104,17 +104,17 @@ single_in_trees at ts singles.Redirect = read_map Statement.redirect (one_in_tre
     at ts)
 single_in_trees at ts singles.Template = template_in_trees at ts
 
--- a statement, and the site that comes after those of its `create` statements
+-- A statement, and the next site after those of its `create` statements.
 pub record Numbered : Type 0 where
   pub statement : Statement
   pub next : ℕ
 
--- the same of statements
+-- The same for statements.
 pub record Body : Type 0 where
   pub statements : Statements
   pub next : ℕ
 
--- the site after this one; all sites past the last that a view may have are 65
+-- The site after this one. It is at most 65, because a view has at most 64 sites.
 abbrev pub next_site : ℕ → ℕ
 next_site n = min (n + 1) 65
 
@@ -139,7 +139,7 @@ create x m n cells b = numbered_statement b.next (Statement.create x m n cells b
 abbrev pub before_body : Statement → Body → Body
 before_body s b = body b.next (Statements.more s b.statements)
 
--- what stands after the head, read in each way that some statement takes it
+-- The trees after the head, read in each way in which some statement takes them.
 pub record StatementOperands : Type 0 where
   pub single : Single → Read Statement
   pub bind : ℕ → Read Numbered
@@ -147,7 +147,7 @@ pub record StatementOperands : Type 0 where
   pub each : ℕ → Read Numbered
   pub create : ℕ → Read Numbered
 
--- a statement whose first site would be n
+-- The statement of this kind. Its sites are numbered from `n`.
 abbrev pub statement_of_step : List ℕ → Option Step → StatementOperands → ℕ → Read Numbered
 statement_of_step at None operands n = wrong wants.Statement at
 statement_of_step at (Some (steps.Single single)) operands n = read_map (numbered_statement n)
@@ -157,14 +157,14 @@ statement_of_step at (Some steps.If) operands n = operands.branch n
 statement_of_step at (Some steps.For) operands n = operands.each n
 statement_of_step at (Some steps.Create) operands n = operands.create n
 
--- a statement, and statements; their sites are counted from n in the order of the text
+-- A statement, and statements. Their sites are numbered from `n` in the order of the text.
 abbrev mutual
   pub statement_in_tree : List ℕ → PlainTree → ℕ → Read Numbered
   statement_in_tree at (PlainTree.atom a) n = wrong wants.Statement at
   statement_in_tree at (PlainTree.text x) n = wrong wants.Statement at
   statement_in_tree at (PlainTree.list ts) n = statement_in_list at ts n
 
-  -- a list, which begins with the word of its statement
+  -- A list, which begins with the word of its statement.
   pub statement_in_list : List ℕ → PlainTrees → ℕ → Read Numbered
   statement_in_list at PlainTrees.none n = wrong wants.Statement at
   statement_in_list at (PlainTrees.more head ts) n =
@@ -176,7 +176,7 @@ abbrev mutual
         create = create_in_trees at ts;
       }) n
 
-  -- a name, an expression and statements
+  -- A name, an expression and statements.
   pub bind_in_trees : List ℕ → PlainTrees → ℕ → Read Numbered
   bind_in_trees at (PlainTrees.more x (PlainTrees.more e ss)) n =
       read_and_then (λ name. read_and_then (λ value. read_map (bind_statement name value)
@@ -184,7 +184,7 @@ abbrev mutual
       (name_in_tree (child at 1) x)
   bind_in_trees at ts n = wrong wants.Statement at
 
-  -- a condition and two lists of statements
+  -- A condition and two lists of statements.
   pub branch_in_trees : List ℕ → PlainTrees → ℕ → Read Numbered
   branch_in_trees at (PlainTrees.more c (PlainTrees.more a (PlainTrees.more b PlainTrees.none))) n =
       read_and_then (λ cond. read_and_then (λ first. read_map (branch cond first)
@@ -192,14 +192,14 @@ abbrev mutual
       (expression_in_tree (child at 1) c)
   branch_in_trees at ts n = wrong wants.Statement at
 
-  -- a query and statements
+  -- A query and statements.
   pub each_of_query : List ℕ → PlainTrees → ℕ → Read Numbered
   each_of_query at (PlainTrees.more q ss) n =
       read_and_then (λ asked. read_map (each asked) (statements_in_trees at 2 ss n))
       (question_in_tree 3 (child at 1) q)
   each_of_query at PlainTrees.none n = wrong wants.Statement at
 
-  -- a name, a model, a set and statements; its own site comes before theirs
+  -- A name, a model, a set and statements. Its own site comes before theirs.
   pub create_in_trees : List ℕ → PlainTrees → ℕ → Read Numbered
   create_in_trees at (PlainTrees.more x (PlainTrees.more m (PlainTrees.more s ss))) n =
       read_and_then (λ name. read_and_then
@@ -208,13 +208,13 @@ abbrev mutual
       (name_in_tree (child at 2) m)) (name_in_tree (child at 1) x)
   create_in_trees at ts n = wrong wants.Statement at
 
-  -- a list of statements
+  -- A list of statements.
   pub body_in_tree : List ℕ → PlainTree → ℕ → Read Body
   body_in_tree at (PlainTree.atom a) n = wrong wants.Body at
   body_in_tree at (PlainTree.text x) n = wrong wants.Body at
   body_in_tree at (PlainTree.list ts) n = statements_in_trees at 0 ts n
 
-  -- statements, of which the first is child k
+  -- Statements. The first is child `k`.
   pub statements_in_trees : List ℕ → ℕ → PlainTrees → ℕ → Read Body
   statements_in_trees at k PlainTrees.none n = got (body n Statements.none)
   statements_in_trees at k (PlainTrees.more t ts) n =
@@ -230,7 +230,7 @@ statement_operands at ts = record {
   create = create_in_trees at ts;
 }
 
--- how many `create` statements there are
+-- The number of `create` statements.
 abbrev mutual
   pub creates_in : Statement → ℕ
   creates_in (Statement.put e) = 0

@@ -26,8 +26,8 @@ struct Items {
     views: Views,
 }
 
-/// The application that a tree writes, or the tree's first fault. A list of 2^32 trees or more, and
-/// so an application of as many views, is answered as want of memory.
+/// The application that a tree represents, or the tree's first fault. A list of 2^32 trees or more,
+/// and so an application with as many views, gives `FormFault::Memory`.
 pub fn app_of(alloc: Global, tree: &Tree) -> Result<App, FormFault>
     ensures value { IfOk result (λ a. application_of_tree (plain tree.now)
         ≡ Some (application_of a)) }
@@ -61,7 +61,7 @@ fn read_app(alloc: Global, place: &Place<'_>, trees: &Trees) -> Result<App, Form
     Ok(app)
 }
 
-// The models are the lists whose head is `model`, wherever they stand.
+// The number of lists with the head `model`, wherever they are among the trees.
 fn count_models(trees: &Trees) -> Result<u64, Memory>
     ensures { IfOk result (λ number. number ≡ headed_count (codes "model") (plain_all trees.now)) }
 {
@@ -127,7 +127,7 @@ fn read_viewer(alloc: Global, place: &Place<'_>, tree: &Tree) -> Result<Txt, For
     }
 }
 
-// Models, and then views, from the child `first` on.
+// Reads models and then views, from the child `first` on.
 fn read_items(
     alloc: Global,
     place: &Place<'_>,

@@ -30,8 +30,8 @@ pub fn read_set(alloc: Global, place: &Place<'_>, tree: &Tree) -> Result<Publics
     }
 }
 
-/// Fields with their expressions, after the head of their list; what is none of these is a fault
-/// of `want`.
+/// Reads fields with their expressions, after the head of their list. Anything else is a fault with
+/// `want`.
 pub fn read_assigned(
     alloc: Global,
     place: &Place<'_>,

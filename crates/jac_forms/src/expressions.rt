@@ -19,8 +19,8 @@ use jac_tree::{Tree, Trees, is_word};
 use jac_value::{Txt, integer_of, is_name};
 use std::alloc::Global;
 
-/// The expression that a tree writes, or the tree's first fault. A list of 2^32 trees or more is
-/// answered as want of memory.
+/// The expression that a tree represents, or the tree's first fault. A list of 2^32 trees or more
+/// gives `FormFault::Memory`.
 pub fn expr_of(alloc: Global, tree: &Tree) -> Result<Expr, FormFault>
     ensures value { IfOk result (λ e. expression_of_tree (plain tree.now)
         ≡ Some (expression_of e)) }
@@ -33,8 +33,8 @@ pub fn expr_of(alloc: Global, tree: &Tree) -> Result<Expr, FormFault>
     Ok(e)
 }
 
-/// The query of one to three binders that a tree writes, or the tree's first fault. A list of 2^32
-/// trees or more is answered as want of memory.
+/// The query of one to three binders that a tree represents, or the tree's first fault. A list of
+/// 2^32 trees or more gives `FormFault::Memory`.
 pub fn query_of(alloc: Global, tree: &Tree) -> Result<Query, FormFault>
     ensures value { IfOk result (λ q. question_of_tree 3 (plain tree.now) ≡ Some (question_of q)) }
     ensures none { IfErr result (λ f. IsTrue (refuses f) → question_of_tree 3 (plain tree.now)
@@ -46,7 +46,7 @@ pub fn query_of(alloc: Global, tree: &Tree) -> Result<Query, FormFault>
     Ok(q)
 }
 
-/// The one expression after the head of a list; a list of anything else is a fault of `want`.
+/// Reads the only expression after the head of a list. Anything else is a fault with `want`.
 pub fn read_only(
     alloc: Global,
     place: &Place<'_>,
@@ -91,7 +91,7 @@ pub fn read_expr(alloc: Global, place: &Place<'_>, tree: &Tree) -> Result<Expr, 
     }
 }
 
-// A list begins with the word of its form.
+// Reads a list, which begins with the word of its form.
 #[cycle(read)]
 fn read_list(alloc: Global, place: &Place<'_>, trees: &Trees) -> Result<Expr, FormFault>
     ensures value { IfOk result (λ e. expression_in_list (path_of place.now) (plain_all trees.now)

@@ -4,11 +4,11 @@ ghost use Rattle.jac_forms.specs.declared.fault.FormFault.TheVariants as faults;
 use jac_value::{List, Memory};
 use std::alloc::{AllocError, AllocFailed, Global};
 
-/// The place of a tree within another: child numbers from the root, where the head of a list is
-/// child 0. The root itself has the empty path.
+/// The position of a tree within another: child numbers from the root. The head of a list is child
+/// 0. The root has the empty path.
 pub type Path = List<u32>;
 
-/// What should stand where a form is wrong.
+/// What is wanted at the place of a fault.
 #[derive(Clone, Copy, PartialEq, Eq)]
 pub enum Want {
     App,
@@ -34,8 +34,8 @@ pub enum Want {
     Expression,
 }
 
-/// What there is too much of: more than 64 models, 32 fields of a model, 8 groups of a model, 64
-/// `create` statements of a view, or 3 binders of a query.
+/// A kind of items with a limit: 64 models, 32 fields of a model, 8 groups of a model, 64 `create`
+/// statements of a view, or 3 binders of a query.
 #[derive(Clone, Copy, PartialEq, Eq)]
 pub enum What {
     Models,
@@ -45,13 +45,13 @@ pub enum What {
     Binders,
 }
 
-/// Why a tree is no such form: its first fault in reading order, where the head and the number of
-/// the trees of a list come first, then how many there may be, then each of them from the left.
+/// Why a tree can't be read: its first fault in reading order. For a list, first come its head and
+/// the number of its trees, then the limit on its items, then each tree from the left.
 #[derive(Drop)]
 pub enum FormFault {
-    /// The tree at this path isn't what should stand there.
+    /// The tree at this path isn't what is wanted there.
     Form { path: Path, want: Want },
-    /// The tree at this path has `have` of these.
+    /// The tree at this path has `have` of these, which is too many.
     TooMany { path: Path, what: What, have: u64 },
     Memory,
 }

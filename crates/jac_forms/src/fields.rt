@@ -15,7 +15,7 @@ use jac_tree::{Tree, Trees, is_up_to, tail_of};
 use jac_value::Txt;
 use std::alloc::Global;
 
-/// The fields of a model, at most 32.
+/// Reads the fields of a model, at most 32.
 pub fn read_fields(alloc: Global, place: &Place<'_>, tree: &Tree) -> Result<Fields, FormFault>
     ensures value { IfOk result (λ fs. fields_in_tree (path_of place.now) (plain tree.now)
         ≡ got fs) }
@@ -32,7 +32,7 @@ pub fn read_fields(alloc: Global, place: &Place<'_>, tree: &Tree) -> Result<Fiel
     }
 }
 
-/// The parameters of a view.
+/// Reads the parameters of a view.
 pub fn read_params(alloc: Global, place: &Place<'_>, tree: &Tree) -> Result<Fields, FormFault>
     ensures value { IfOk result (λ fs. params_in_tree (path_of place.now) (plain tree.now)
         ≡ got fs) }
@@ -141,7 +141,7 @@ fn plain_kind_of(word: &str) -> Option<KindName>
     }
 }
 
-/// The one name after the head of a list; a list of anything else is a fault of `want`.
+/// Reads the only name after the head of a list. Anything else is a fault with `want`.
 pub fn read_only_name(
     alloc: Global,
     place: &Place<'_>,

@@ -1,5 +1,5 @@
-//! From trees to applications, expressions and queries: the forms that they are written in, and the
-//! first fault of a tree that is none.
+//! Reads an application, an expression or a query from a tree, or gives the first fault of the
+//! tree.
 #![tactic(auto)]
 
 mod applications;

@@ -53,7 +53,7 @@ fn read_parts(alloc: Global, place: &Place<'_>, parts: &Trees) -> Result<ModelDe
     Ok(model)
 }
 
-// The parts of a model that stand after its name, or after `nested`, from this child on.
+// Reads the parts of a model after its name, or after `nested`, from the child `first` on.
 fn read_behind(
     alloc: Global,
     place: &Place<'_>,
@@ -84,7 +84,7 @@ fn read_behind(
     })
 }
 
-// The groups of a model, from this child on.
+// Reads the groups of a model, from the child `first` on.
 fn read_groups(
     alloc: Global,
     place: &Place<'_>,
@@ -148,7 +148,7 @@ fn read_group_parts(alloc: Global, place: &Place<'_>, parts: &Trees) -> Result<G
     })
 }
 
-// The guards, or none where the whole record is hidden.
+// Reads the guards. There are none if the whole record is hidden.
 fn read_guarding(
     alloc: Global,
     place: &Place<'_>,

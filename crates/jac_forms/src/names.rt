@@ -12,7 +12,7 @@ use jac_tree::{Tree, Trees};
 use jac_value::{Memory, Txt, is_name};
 use std::alloc::Global;
 
-/// How many trees there are, for a fault to tell.
+/// The number of trees, for the message of a fault.
 pub fn count(trees: &Trees) -> Result<u64, Memory>
     ensures { IfOk result (λ number. number ≡ count (plain_all trees.now)) }
 {
@@ -25,7 +25,7 @@ pub fn count(trees: &Trees) -> Result<u64, Memory>
     Ok(number)
 }
 
-/// The number of the next child. No tree is there for one past the last of 32 bits.
+/// The number of the next child. If it doesn't fit into 32 bits, the result is `Memory`.
 pub fn next_number(number: u32) -> Result<u32, Memory>
     ensures { IfOk result (λ next. (next ≡ number + 1) × (next < 2 ^ 32)) }
 {
@@ -35,7 +35,8 @@ pub fn next_number(number: u32) -> Result<u32, Memory>
     }
 }
 
-/// One more. So much that 64 bits don't count it is never there.
+/// The count plus one. If it doesn't fit into 64 bits, the result is `Memory`. This never happens
+/// in practice.
 pub fn next_count(number: u64) -> Result<u64, Memory>
     ensures { IfOk result (λ next. next ≡ number + 1) }
 {

@@ -7,7 +7,7 @@ use crate::{FormFault, Path, Want, What};
 use jac_value::Memory;
 use std::alloc::Global;
 
-/// Where a tree stands: what it is a child of, and as which. Its path is made where a fault is.
+/// The position of a tree: its parent and its child number. Its path is built only for a fault.
 #[derive(Clone, Copy)]
 pub enum Place<'p> {
     Top,

@@ -14,7 +14,7 @@ use jac_tree::{Tree, Trees, is_up_to, is_word};
 use jac_value::Txt;
 use std::alloc::Global;
 
-/// How many binders a query may have: one where its answers are counted or summed.
+/// How many binders a query may have: one if its results are counted or summed, or else three.
 #[derive(Clone, Copy, PartialEq, Eq)]
 pub enum Most {
     One,
@@ -32,8 +32,8 @@ impl Most {
     }
 }
 
-/// Whether there are as few binders as are asked where only one may be. What is no list is told
-/// later.
+/// Whether the list has at most one binder, if only one is allowed. If the tree is no list, the
+/// fault is found later.
 pub fn has_few(most: Most, tree: &Tree) -> bool
     ensures { result ≡ has_few (most_binders most) (plain tree.now) }
 {

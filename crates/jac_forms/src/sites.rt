@@ -6,7 +6,7 @@ use crate::names::next_count;
 use jac_lang::{Stmt, Stmts};
 use jac_value::Memory;
 
-/// How many `create` statements there are, for a fault to tell.
+/// The number of `create` statements, for the message of a fault.
 #[cycle(sites)]
 pub fn count_sites(body: &Stmts) -> Result<u64, Memory>
     ensures { IfOk result (λ number. number ≡ creates (statements_of body.now)) }
@@ -53,7 +53,7 @@ fn sites_of(statement: &Stmt) -> Result<u64, Memory>
     }
 }
 
-// So many statements that 64 bits don't count them are never there.
+// The sum. If it doesn't fit into 64 bits, the result is `Memory`. This never happens in practice.
 fn sum_of(first: u64, second: u64) -> Result<u64, Memory>
     ensures { IfOk result (λ number. number ≡ first + second) }
 {

@@ -17,8 +17,8 @@ use jac_lang::{Stmt, Stmts};
 use jac_tree::{Tree, Trees};
 use std::alloc::Global;
 
-/// Statements from the child `first` of a list on. Their sites are counted from `sites`, which is
-/// the next site after them.
+/// Reads statements, from the child `first` of a list on. Their sites are numbered from `sites`,
+/// which is then set to the next site.
 #[cycle(read)]
 pub fn read_stmts(
     alloc: Global,
@@ -262,7 +262,7 @@ fn read_body(
     }
 }
 
-// A view has at most 64 sites, so it is enough to count up to 65.
+// The next site. A view has at most 64 sites, so it is enough to count to 65.
 fn next_site(site: u8) -> u8
     ensures { result ≡ next_site site }
 {

@@ -4,7 +4,7 @@ ghost use Rattle.jac_forms.specs.Statements.{single_of, step_around, step_of, st
 
 use jac_tree::Tree;
 
-/// The statements that have no statements inside.
+/// The kinds of statements without statements inside.
 #[derive(Clone, Copy, PartialEq, Eq)]
 pub enum Single {
     Put,
@@ -17,7 +17,7 @@ pub enum Single {
     Template,
 }
 
-/// What a statement is, by its head.
+/// The kind of a statement, by its head.
 #[derive(Clone, Copy, PartialEq, Eq)]
 pub enum Step {
     Single(Single),

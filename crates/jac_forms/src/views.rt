@@ -31,7 +31,8 @@ pub fn read_view(alloc: Global, place: &Place<'_>, tree: &Tree) -> Result<View, 
     }
 }
 
-// The sites are counted after the statements, so a fault inside of them comes first.
+// Reads the parts of a view. The number of sites is tested after the statements are read, so a
+// fault inside of them comes first.
 fn read_parts(alloc: Global, place: &Place<'_>, parts: &Trees) -> Result<View, FormFault>
     ensures value { IfOk result (λ v. page_in_trees (path_of place.now) (plain_all parts.now)
         ≡ got (page_of_view v)) }

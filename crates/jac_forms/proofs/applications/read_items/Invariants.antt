@@ -7,7 +7,7 @@ use Rattle.jac_forms.specs.Places.{path_of}
 use Rattle.jac_forms.proofs.Gathered.{gathered}
 use Rattle.jac_forms.proofs.applications.read_items.Given as goal
 
--- the models so far, before the items of the rest, are the items of all
+-- The models so far, followed by the items of the rest, are all items.
 abbrev pub invariant-models : goal.invariant-models
 invariant-models l = record {
   few : vec_len l.models + headed_count (codes "model") (plain_all l.left) ≤ 64;

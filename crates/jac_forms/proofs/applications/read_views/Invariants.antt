@@ -7,7 +7,8 @@ use Rattle.jac_forms.specs.Places.{path_of}
 use Rattle.jac_forms.proofs.Made.{made_before}
 use Rattle.jac_forms.proofs.applications.read_views.Given as goal
 
--- the views so far, before those of the rest, are those of all; and there are fewer than the next has as its number
+-- The views so far, followed by those of the rest, are all views. There are fewer views so far than
+-- the number of the next child.
 abbrev pub invariant-views : goal.invariant-views
 invariant-views l = record {
   few : length l.views.items ≤ l.number;

@@ -8,7 +8,7 @@ use Rattle.jac_forms.specs.Reads.{read_map}
 use Rattle.jac_forms.specs.Statements.{assigned_in_tree}
 use Rattle.jac_forms.proofs.assigned.read_assigned.Given as goal
 
--- the fields so far, before those of the rest, are those of all
+-- The fields so far, followed by those of the rest, are all fields.
 abbrev pub invariant-fields : goal.invariant-fields
 invariant-fields l =
     read_map (turned_round (assigned_of l.back)) (each_in_trees (assigned_in_tree l.fn.want) (path_of l.fn.place) l.number (plain_all l.left))

@@ -8,7 +8,7 @@ use Rattle.jac_forms.specs.Places.{path_of}
 use Rattle.jac_forms.specs.Reads.{read_map}
 use Rattle.jac_forms.proofs.expressions.+read.Given as goal
 
--- the parts so far, before those of the rest, are those of all
+-- The parts so far, followed by those of the rest, are all parts.
 abbrev pub invariant-read_parts-parts : goal.invariant-read_parts-parts
 invariant-read_parts-parts l = record {
   no_deeper : size-Trees l.left ≤ size-Trees l.operands;

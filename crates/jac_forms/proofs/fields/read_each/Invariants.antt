@@ -7,7 +7,7 @@ use Rattle.jac_forms.proofs.Made.{made_before}
 use Rattle.jac_forms.proofs.fields.read_each.Given as goal
 use Rattle.jac_tree.specs.Plain.{count}
 
--- the fields so far, before those of the rest, are those of all
+-- The fields so far, followed by those of the rest, are all fields.
 abbrev pub invariant-fields : goal.invariant-fields
 invariant-fields l = record {
   count : vec_len l.fields + count (plain_all l.left) ≡ count (plain_all l.trees);

@@ -8,7 +8,7 @@ use Rattle.jac_forms.proofs.Made.{made_before}
 use Rattle.jac_forms.proofs.models.read_groups.Given as goal
 use Rattle.jac_tree.specs.Plain.{count}
 
--- the groups so far, before those of the rest, are those of all
+-- The groups so far, followed by those of the rest, are all groups.
 abbrev pub invariant-groups : goal.invariant-groups
 invariant-groups l = record {
   count : vec_len l.groups + count (plain_all l.left) ≡ count (plain_all l.trees);

@@ -7,7 +7,7 @@ use Rattle.jac_forms.specs.Reads.{read_map}
 use Rattle.jac_forms.specs.Expressions.{binders_in_trees}
 use Rattle.jac_forms.proofs.queries.read_each.Given as goal
 
--- the binders so far, before those of the rest, are those of all
+-- The binders so far, followed by those of the rest, are all binders.
 abbrev pub invariant-binders : goal.invariant-binders
 invariant-binders l =
     read_map (turned_round (binders_of l.back)) (binders_in_trees (path_of l.fn.place) l.number (plain_all l.left))

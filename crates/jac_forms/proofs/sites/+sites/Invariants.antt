@@ -4,7 +4,7 @@ use Rattle.jac_lang.specs.declared.statements.Stmts.{size-Stmts}
 use Rattle.jac_forms.specs.Statements.{creates}
 use Rattle.jac_forms.proofs.sites.+sites.Given as goal
 
--- those so far and those of the rest are all
+-- The number so far plus that of the rest is the number of all.
 abbrev pub invariant-count_sites-statements : goal.invariant-count_sites-statements
 invariant-count_sites-statements l = record {
   no_deeper : size-Stmts l.left ≤ size-Stmts l.body;

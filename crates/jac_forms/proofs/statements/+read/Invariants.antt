@@ -7,7 +7,7 @@ use Rattle.jac_forms.specs.Statements.{statements_in_trees}
 use Rattle.jac_forms.proofs.Bodies.{gathered}
 use Rattle.jac_forms.proofs.statements.+read.Given as goal
 
--- the statements so far, before those of the rest, are those of all
+-- The statements so far, followed by those of the rest, are all statements.
 abbrev pub invariant-read_stmts-statements : goal.invariant-read_stmts-statements
 invariant-read_stmts-statements l = record {
   no_deeper : size-Trees l.left ≤ size-Trees l.trees;
