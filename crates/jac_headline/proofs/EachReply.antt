@@ -1,4 +1,4 @@
--- Each reply of a serve is a right page, a refusal by its cause, or stands for a failure.
+-- Each reply of a serve is a right page, a refusal with its cause, or a failure.
 use Rattle.std.proofs.Common.{◌≡◌, ap, sym, subst, refl, inl, inr, ◌⊎◌, arith, ℕ, ◌+◌, ◌≤◌, Bool, true, if◌then◌else◌, Option, Some, None, List, [], ◌∷◌, ◌++◌}
 use Rattle.jac_io.specs.Faults.{Rose}
 use Rattle.jac_lang.specs.Syntax.{Application}
@@ -25,7 +25,7 @@ use Rattle.jac_headline.proofs.Visits.{visits_on}
 
 -- ---- one answer
 
--- a page, a refusal by its cause, or a failure
+-- A page, a refusal with its cause, or a failure.
 abbrev IsOfKind : Application → Worlds → LogSubject → Answer → Type 0
 IsOfKind app worlds subject answer =
     ((labels : List ℕ) × (answer.shown ≡ Some labels))

@@ -1,4 +1,5 @@
--- A replay that was told to its end is faithful to the ordinary interpreter.
+-- If the contents of the files and the store are known at the end of a replay, it is faithful to
+-- the ordinary interpreter.
 use Rattle.std.proofs.Common.{◌≡◌, subst, ℕ, ◌+◌, Bool, true, Option, Some, List, [], ◌∷◌, ◌++◌}
 use Rattle.jac_world.specs.World.{shown_by}
 use Rattle.jac_lang.specs.Syntax.{Application}
@@ -24,7 +25,7 @@ use Rattle.jac_headline.specs.Headline.{Given, HoldGiven, IsReplayTold, HasRepla
 use Rattle.jac_headline.proofs.Told.{HasAnswered, has_answered}
 use Rattle.jac_headline.proofs.RightAnswers.{faithful_log}
 
--- what the events bring doesn't depend on how they are answered
+-- What the events bring doesn't depend on how they are answered.
 pub tells : (x : AnswerSpec) (known : Connections Ask) (n : ℕ) (events : List Event) (log : List LogEntry) (text : List ℕ) (later : Connections Ask)
     → Brings x known n events log text later → TellsLog (hearing x) known n events log text
 tells x known n [] log text later (none, is, stays) = (none, is)

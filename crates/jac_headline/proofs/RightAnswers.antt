@@ -1,4 +1,4 @@
--- Answers that are right, as pages under their labels and as refusals.
+-- Answers are right: pages under their labels, and refusals.
 use Rattle.std.proofs.Common.{◌≡◌, ◌∙◌, ap, sym, subst, refl, inl, inr, ℕ, Bool, true, false, Option, Some, None, List, [], ◌∷◌, ◌++◌, slice_get}
 use Rattle.jac_world.specs.World.{shown_by}
 use Rattle.jac_lang.specs.Syntax.{Application}
@@ -28,7 +28,7 @@ some_none labels e = cc
 one_list : (labels other : List ℕ) → Some labels ≡ Some other → labels ≡ other
 one_list labels other e = cc
 
--- a refusal has no labels
+-- A refusal has no labels.
 no_page : (answer : Answer) (status : ℕ) (allow : Option (List ℕ)) (labels : List ℕ) → answer ≡ refusal status allow → answer.shown ≡ Some labels → ⊥
 no_page answer status allow labels is on = some_none labels (sym on ∙ ap (λ (a : Answer). a.shown) is)
 
@@ -38,7 +38,7 @@ failed_no_page answer labels (inr is) on = no_page answer 503 None labels is on
 
 -- ---- the page of a view
 
--- the page of a visit under these labels, and what is so of these after it
+-- The page of a visit under these labels, and what holds of the labels after it.
 pub record IsViewed (lazy : Bool) (app : Application) (before : Worlds) (visit : Visit) (answer : Answer) (labels : List ℕ) : Type 0 where
   pub made : page_seen answer ≡ page (shown_by labels) app (before (shown_by labels)) visit
   pub allowed : AreAllowed app (λ w. after w app (before w) visit) visit.viewer labels
@@ -74,7 +74,7 @@ viewed_lazily app before visit answer labels leaves p on =
       settled = λ plain. absurd (not_plain plain);
     }
 
--- a view of GET leaves all worlds
+-- A GET view leaves all worlds unchanged.
 left_by_get : (app : Application) (before : Worlds) (visit : Visit) → method_in (slice_get app.views visit.view) ≡ verbs.Get
     → ◌≡◌ {A = Worlds} before (λ w. after w app (before w) visit)
 left_by_get app before visit is = λ i w. after_by (sym is i) w app (before w) visit
@@ -110,9 +110,9 @@ refused_by lazy verbs.Get app before visit answer p none = absurd (shown_refused
 refused_by lazy verbs.Post app before visit answer (inl (full, number)) none = (status_is answer (refusal 507 None) full, number)
 refused_by lazy verbs.Post app before visit answer (inr (some, p)) none = absurd (some_none p.labels (sym (ap (λ (a : Answer). a.shown) p.made) ∙ none))
 
--- ---- by what was found
+-- ---- by what the request finds
 
--- the page of a request that found this
+-- The page of a request that found this.
 page_found : (lazy : Bool) (f : Found) (app : Application) (before : Worlds) (ask : Ask) (answer : Answer) (labels : List ℕ) → IsAnswerBy lazy f app before ask answer
     → answer.shown ≡ Some labels → (visit : Visit) × (visit_by f app ask ≡ Some visit) × IsViewed lazy app before visit answer labels
     × ◌≡◌ {A = Worlds} (λ w. after w app (before w) visit) (λ w. left_by f w app ask answer.shown (before w))
@@ -135,11 +135,11 @@ refusal_found lazy (founds.View n pairs) app before ask answer is none =
 
 -- ---- by the subject
 
--- the worlds after an answer
+-- The worlds after an answer.
 abbrev pub behind_of : Application → Worlds → LogSubject → Answer → Worlds
 behind_of app before subject answer w = left_of w app subject answer (before w)
 
--- the page of a subject, and what is so of its labels after it
+-- The page of a subject, and what holds of its labels after it.
 pub record IsPaged (lazy : Bool) (app : Application) (before behind : Worlds) (subject : LogSubject) (answer : Answer) (labels : List ℕ) : Type 0 where
   pub visit : Visit
   pub asks : visit_in app subject ≡ Some visit
@@ -174,7 +174,7 @@ right_refusal lazy app before broken answer is none = ap (λ (a : Answer). a.sta
 
 -- ---- in a log
 
--- an entry after others, in the worlds that these leave
+-- An entry after others, in the worlds that these leave.
 pub answered_behind : (lazy : Bool) (app : Application) (worlds : Worlds) (before : List LogEntry) (entry : LogEntry) (later : List LogEntry)
     → AreAnswered lazy app worlds (before ++ entry ∷ later)
     → IsAnswer lazy app (λ w. after_log w app before (worlds w)) entry.subject entry.answer

@@ -1,4 +1,4 @@
--- Two replays of the same: entries at one place.
+-- Two replays of the same events: entries at the same place.
 use Rattle.std.proofs.Common.{◌≡◌, subst, arith, ℕ, false, Some, List, [], ◌∷◌, ◌++◌, length}
 use Rattle.jac_lang.specs.Syntax.{Application}
 use Rattle.jac_rows.specs.declared.state.State.{State}
@@ -16,7 +16,7 @@ use Rattle.jac_headline.specs.Companions.{HideAlike}
 use Rattle.jac_headline.proofs.Told.{HasAnswered, has_answered}
 use Rattle.jac_headline.proofs.Faithful.{faithful}
 
--- entries after as many are compared
+-- Entries after equally many others are compared.
 same_behind : (start other : State) (before before' : List LogEntry) (entry entry' : LogEntry) (later later' : List LogEntry)
     → AreSameWhereShown start other (before ++ entry ∷ later) (before' ++ entry' ∷ later') → length before ≡ length before'
     → NoneFailed (before ++ entry ∷ []) → NoneFailed (before' ++ entry' ∷ []) → IsSameWhereShown start other entry entry'
@@ -26,7 +26,7 @@ same_behind start other (one ∷ before) [] entry entry' later later' same long 
 same_behind start other (one ∷ before) (two ∷ before') entry entry' later later' same long none none' =
     same_behind start other before before' entry entry' later later' (same (none.0, none'.0)).1 (omega (arith, long)) none.1 none'.1
 
--- the run, as the laws of two runs take it
+-- The run in the form that the laws of two runs need.
 abbrev pub run_of : {L : Type 0} (replay : Replay) (given : Given) (top : TopRun L) → HasAnswered replay given top → OneRun
 run_of replay given top run =
     record { lazy = replay.lazy; early = false; start = run.opened.state; log = run.log; finish = top.seen.keeper.after.state }

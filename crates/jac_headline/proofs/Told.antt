@@ -1,5 +1,6 @@
--- What a replay answered that was told to its end, from the statement of the top call: with status
--- 0, or with 3 where a line of the events is refused.
+-- What a replay answered, by the contract of the top call. It ended with status 0, or with status 3
+-- because a line of the events is refused, and the contents of its files and its store are known at
+-- the end.
 use Rattle.std.proofs.Common.{◌≡◌, ◌∙◌, ap, sym, subst, refl, inl, inr, ◌⊎◌, ℕ, false, IsTrue, Result, Ok, Err, Option, Some, None, List, ◌++◌, append-nil}
 use Rattle.jac_io.specs.Seen.{SinkSeen}
 use Rattle.jac_lang.specs.Syntax.{Application}
@@ -38,7 +39,7 @@ use Rattle.jac_run_laws.proofs.Replays.{serves, sessions_held, same_command}
 use Rattle.jac_run_laws.proofs.SameReplays.{same_bytes, one_sessions}
 use Rattle.jac_headline.specs.Headline.{Given, HoldGiven, IsReplayTold, event_fault_text, status_by}
 
--- what it read, and how it answered that
+-- What the replay read, and how it answered that.
 pub record HasAnswered {L : Type 0} (replay : Replay) (given : Given) (top : TopRun L) : Type 0 where
   pub app : Application
   pub opened : KeeperSeen
@@ -57,9 +58,9 @@ pub record HasAnswered {L : Type 0} (replay : Replay) (given : Given) (top : Top
   pub audit_took : Took top.seen.audit (audit_lines log)
   pub ended : top.status ≡ status_by (script_of given.events).refused
 
--- ---- which endings have these statuses
+-- ---- the endings with these statuses
 
--- status 0, or 3
+-- Status 0 or status 3.
 abbrev pub IsTelling : Status → Type 0
 IsTelling status = (status ≡ statuses.Done) ⊎ (status ≡ statuses.LineRefused)
 
@@ -103,7 +104,8 @@ not_usage : IsTelling statuses.Usage → ⊥
 not_usage (inl e) = cc
 not_usage (inr e) = cc
 
--- where the last line was put, the status is its own
+-- If the run ends with one of these statuses, the last line was written, and the status is the one
+-- that belongs to the line.
 closed_with : (out : Span SinkSeen) (line put : List ℕ) (status answer : Status) → Closes out line status put answer
     → IsTelling answer → (put ≡ line) × (answer ≡ status)
 closed_with out line put status answer (inl h) telling = h
@@ -114,7 +116,7 @@ closes_telling : (out : Span SinkSeen) (line put : List ℕ) (status answer : St
 closes_telling out line put status answer closes telling =
     subst (λ (s : Status). IsTelling s) (closed_with out line put status answer closes telling).1 telling
 
--- sessions that a file holds have no bad line
+-- A file that contains sessions has no bad line.
 no_bad_line : {L : Type 0} (top : TopRun L) (name : Option (List ℕ)) (sessions : List Session) (line : ℕ) → IsTrue top.seen.files.after.tells
     → HoldSessions top.seen.files.before.file name sessions → HasBadLine top.seen.files name line → ⊥
 no_bad_line top None sessions line told held bad = bad
@@ -126,7 +128,7 @@ no_bad_line top (Some name) sessions line told (bytes, file, listed) (other, rea
 -- ---- the events were answered
 
 module _ {L : Type 0} (replay : Replay) (given : Given) (top : TopRun L) (told : IsReplayTold top) (held : HoldGiven top.seen.files.before.file replay given) (standing : SinkSeen) (served last audit : List ℕ) (out_took : Took top.seen.out (served ++ last)) (audit_took : Took top.seen.audit audit) where
-  -- the files hold what was read
+  -- The files contain what was read.
   read_is : (app : Application) (sessions : List Session) (bytes : List ℕ)
       → (opened : IsOpened (standing_at top.seen standing) (commands.Replay replay) app sessions bytes)
       → record { app = opened.application.bytes; sessions = sessions; events = bytes } ≡ given
@@ -172,7 +174,7 @@ module _ {L : Type 0} (replay : Replay) (given : Given) (top : TopRun L) (told :
       } in
       subst (λ (g : Given). HasAnswered replay g top) (read_is app sessions bytes files) answered
 
-  -- all events were answered
+  -- All events were answered.
   replay_done : EndsReplay (standing_at top.seen standing) (counts_of top) (commands.Replay replay) (Ok tt) served audit
       → last ≡ event_fault_text None → top.status ≡ statuses.Done → HasAnswered replay given top
   replay_done (inl early) line status = absurd early.0
@@ -180,7 +182,7 @@ module _ {L : Type 0} (replay : Replay) (given : Given) (top : TopRun L) (told :
       let on = serving.ends.1 in
       answered_on serving.app serving.sessions serving.events None serving.opened on.opened on.attached on.left on.ends.1 on.ends.0 line status
 
-  -- those before a line that is refused were
+  -- The events before a refused line were answered.
   replay_stopped : (event_fault : EventFault) → EndsReplay (standing_at top.seen standing) (counts_of top) (commands.Replay replay) (Err (exits.LineRefused event_fault)) served audit
       → last ≡ event_fault_line event_fault → top.status ≡ statuses.LineRefused → HasAnswered replay given top
   replay_stopped event_fault (inl early) line status = absurd early.0.0
@@ -188,7 +190,7 @@ module _ {L : Type 0} (replay : Replay) (given : Given) (top : TopRun L) (told :
       let on = serving.ends.1 in
       answered_on serving.app serving.sessions serving.events (Some event_fault) serving.opened on.opened on.attached on.left on.ends.1 on.ends.0 line status
 
-  -- its sessions have a form
+  -- No line of the sessions is refused.
   replay_unlisted : (n : ℕ) → EndsReplay (standing_at top.seen standing) (counts_of top) (commands.Replay replay) (Err (exits.SessionsRefused n)) served audit
       → HasAnswered replay given top
   replay_unlisted n (inl early) = absurd (no_bad_line top replay.sessions given.sessions n told.files held.sessions_held early.0.0.1)

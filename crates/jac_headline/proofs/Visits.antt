@@ -1,4 +1,4 @@
--- Connections that were served one after another have one log that is faithful.
+-- The log of connections that were served one after another is faithful.
 use Rattle.std.proofs.Common.{◌≡◌, ◌∙◌, ap, sym, subst, refl, arith, ℕ, ◌+◌, Bool, IsTrue, Some, List, [], ◌∷◌, ◌++◌, length}
 use Rattle.jac_io.specs.Linked.{LinkSeen}
 use Rattle.jac_lang.specs.Syntax.{Application}
@@ -42,7 +42,7 @@ faults_append (entry ∷ log) others = omega (arith, faults_append log others)
 grew_then : (before between after one two : ℕ) → Grew before one between → Grew between two after → Grew before (one + two) after
 grew_then before between after one two first second = omega (arith, first, second)
 
--- what was answered from one state to another, where the other is told
+-- What was answered from one state to another, if the contents of the keeper are known at the end.
 pub record AreAnsweredOn (lazy : Bool) (app : Application) (before after : RunSeen) (log : List LogEntry) : Type 0 where
   pub told : IsTrue before.keeper.tells
   pub answered : AreAnswered lazy app (worlds_of before.keeper.state) log

@@ -1,5 +1,5 @@
--- What follows for who reads pages: what a policy forbids isn't shown, and what is hidden changes
--- no byte; and for the rows: a write changes the worlds of its path condition alone.
+-- What follows from the promise: nothing that a policy forbids is shown, what is hidden changes no
+-- byte, and a write changes only the worlds in which its path condition is true.
 use Rattle.std.specs.Prelude.{◌≡◌, ℕ, Bool, true, false, Some, List, [], ◌∷◌, ◌++◌, length}
 use Rattle.jac_world.specs.World.{shown_by, holds}
 use Rattle.jac_lang.specs.Syntax.{Application}
@@ -13,8 +13,8 @@ use Rattle.jac_noninterference.specs.TwoRuns.{LookSame, NoneFailed, IsSameReply}
 use Rattle.jac_run_laws.specs.Replayed.{TopRun}
 use Rattle.jac_headline.specs.Headline.{Given, HasReplayedFaithfully, HasEntry, world_behind}
 
--- each label of each page is allowed to who asks, in the world after the request that the page's
--- labels show: its record stands there, and the policy of its group is true
+-- Each label of each page is allowed for the viewer in the world that the page's labels show after
+-- the request: the label's record exists there, and the policy of its group is true.
 abbrev pub ShowsNothingForbidden : Application → State → List LogEntry → Type 0
 ShowsNothingForbidden app start log =
     (before : List LogEntry) (entry : LogEntry) (labels : List ℕ) (k : ℕ)
@@ -22,9 +22,9 @@ ShowsNothingForbidden app start log =
     → is_allowed app (world_behind app start (before ++ entry ∷ []) (shown_by labels))
     (viewer_of_subject entry.subject) k ≡ true
 
--- two replays of the same over two stores: entries at one place, whose pages were made under the
--- same labels, are the same reply, byte by byte, where these labels show the same of both starts
--- and no entry so far stands for want of memory or a fault of the keeper
+-- Two replays of the same events over two stores. Take entries at the same place whose pages have
+-- the same labels. If these labels show the same of both starts, and no entry so far failed because
+-- it was out of memory or because of a fault of the keeper, the replies are the same, byte by byte.
 pub record HideAlike {L M : Type 0} (replay again : Replay) (given : Given) (one : TopRun L)
     (two : TopRun M) : Type 0 where
   pub first : HasReplayedFaithfully replay given one
@@ -37,7 +37,7 @@ pub record HideAlike {L M : Type 0} (replay again : Replay) (given : Given) (one
       → LookSame (shown_by labels) first.opened.state second.opened.state
       → IsSameReply entry other
 
--- every world in which the path condition doesn't hold has the tables that it had
+-- Every world in which the path condition is false keeps its tables.
 abbrev pub LeavesOthers : List (ℕ × Bool) → State → State → Type 0
 LeavesOthers pc old new = (w : ℕ → Bool) → holds w pc ≡ false
     → (project_at w new).tables ≡ (project_at w old).tables

@@ -39,21 +39,21 @@ use Rattle.jac_run_laws.specs.Replayed.{TopRun, HoldSessions}
 
 -- ---- what a replay is given, and its end
 
--- the bytes of an application, the sessions, and the bytes of the events
+-- The bytes of an application, the sessions, and the bytes of the events.
 pub record Given : Type 0 where
   pub app : List ℕ
   pub sessions : List Session
   pub events : List ℕ
 
--- the files of a replay hold these
+-- The files of a replay have these contents.
 pub record HoldGiven (file : List ℕ → Option (List ℕ)) (replay : Replay) (given : Given) : Type 0
   where
     pub app_file : file replay.app ≡ Some given.app
     pub sessions_held : HoldSessions file replay.sessions given.sessions
     pub events_file : file replay.events ≡ Some given.events
 
--- it ended with status 0, or with 3 where a line is refused, and its files and its store tell to
--- the end
+-- The replay ended with status 0, or with status 3 because a line is refused, and the contents of
+-- its files and its store are known at the end.
 pub record IsReplayTold {L : Type 0} (top : TopRun L) : Type 0 where
   pub status : (top.status ≡ statuses.Done) ⊎ (top.status ≡ statuses.LineRefused)
   pub files : IsTrue top.seen.files.after.tells
@@ -61,12 +61,12 @@ pub record IsReplayTold {L : Type 0} (top : TopRun L) : Type 0 where
 
 -- ---- an answer
 
--- the world of an assignment after some entries: what the ordinary interpreter leaves of what the
--- assignment shows of the start
+-- The world of an assignment after some entries: what the ordinary interpreter makes of the world
+-- that the assignment shows at the start.
 abbrev pub world_behind : Application → State → List LogEntry → Worlds
 world_behind app start log w = after_log w app log (project_at w start)
 
--- the view that a request finds, with its parameters and who asks
+-- The view that a request finds, with its parameters and its viewer.
 abbrev pub visit_by : Found → Application → Ask → Option Visit
 visit_by founds.NoRoute app ask = None
 visit_by (founds.WrongMethod allow) app ask = None
@@ -77,13 +77,14 @@ visit_in app (whole ask closes) = visit_by (found app ask.method ask.path) app a
 visit_in app (refused status) = None
 visit_in app broken = None
 
--- what is seen of a page
+-- The parts of an answer that make a page.
 abbrev pub page_seen : Answer → Page
 page_seen answer = record { status = answer.status; location = answer.location; body = answer.body }
 
--- an entry's page under these labels is the ordinary interpreter's, in the world before the request
--- that they show; each of them is allowed to who asks, in the world after the request that they
--- show; and they are settled there, unless only what the page consults was resolved
+-- The entry's page under these labels is the page that the ordinary interpreter makes in the world
+-- that the labels show before the request. In the world that they show after the request, each of
+-- them is allowed for the viewer. They are settled there, unless only the labels that the page
+-- consults were resolved.
 pub record IsRightPage (lazy : Bool) (app : Application) (before behind : Worlds)
     (entry : LogEntry) (labels : List ℕ) : Type 0 where
   pub visit : Visit
@@ -92,28 +93,28 @@ pub record IsRightPage (lazy : Bool) (app : Application) (before behind : Worlds
   pub allowed : AreAllowed app behind visit.viewer labels
   pub settled : lazy ≡ false → IsSettled app behind visit.viewer labels
 
--- no view has the path; its views have other methods; or numbers are used up
+-- No view has the path, the path's views have other methods, or the numbers of records are used up.
 abbrev pub IsRefusedAsFound : Found → Worlds → ℕ → Type 0
 IsRefusedAsFound founds.NoRoute worlds status = status ≡ 404
 IsRefusedAsFound (founds.WrongMethod allow) worlds status = status ≡ 405
 IsRefusedAsFound (founds.View n pairs) worlds status = (status ≡ 507) × HasNoNumber worlds
 
--- a status without a page has its cause: by what the request finds, or that it can't be read; or
--- memory ran out, or the keeper failed
+-- A status without a page has a cause: what the request finds, bytes that are no request, memory
+-- that ran out, or a fault of the keeper.
 abbrev pub IsRefusal : Application → Worlds → LogSubject → ℕ → Type 0
 IsRefusal app worlds (whole ask closes) status =
     (status ≡ 500) ⊎ (status ≡ 503) ⊎ IsRefusedAsFound (found app ask.method ask.path) worlds status
 IsRefusal app worlds (refused code) status = (status ≡ 500) ⊎ (status ≡ code)
 IsRefusal app worlds broken status = status ≡ 500
 
--- the log has this entry, after these
+-- The log has this entry after these entries.
 pub record HasEntry (log before : List LogEntry) (entry : LogEntry) : Type 0 where
   pub later : List LogEntry
   pub parts : log ≡ before ++ entry ∷ later
 
--- a log that leads from a start to a finish is faithful to the ordinary interpreter: under every
--- assignment the stored rows show at the finish what that leaves of what they showed at the start;
--- each page is right, in the worlds after the entries before it; and so is each refusal
+-- A log from a start to a finish is faithful to the ordinary interpreter. Under every assignment
+-- the finish shows what the interpreter makes of what the start shows. Each page and each refusal
+-- is right in the worlds after the entries before it.
 pub record IsFaithful (lazy : Bool) (app : Application) (start finish : State)
     (log : List LogEntry) : Type 0 where
   pub stored : (w : ℕ → Bool) → project_at w finish ≡ world_behind app start log w
@@ -125,10 +126,10 @@ pub record IsFaithful (lazy : Bool) (app : Application) (start finish : State)
       → HasEntry log before entry → entry.answer.shown ≡ None
       → IsRefusal app (world_behind app start before) entry.subject entry.answer.status
 
--- ---- what is read and put
+-- ---- what is read and written
 
--- the events, of which the first is the n-th, bring the log, an entry for each request; and this is
--- its text: the lines of the replies, and that a connection was closed
+-- The events, the first of which is the n-th, bring the log, with an entry for each request. The
+-- text has the lines of the replies and of the closed connections.
 abbrev pub TellsLog : Hearing Ask Answer → Connections Ask → ℕ → List Event → List LogEntry → List ℕ
     → Type 0
 TellsLog h known n [] log text = (log ≡ []) × (text ≡ [])
@@ -139,12 +140,13 @@ TellsLog h known n (event ∷ events) log text =
     × IsBroughtBy h n event known mine
     × TellsLog h (after_both h event mine known) (n + 1) events others rest
 
--- the line that tells of a refused line of the events
+-- The line about a refused line of the events.
 abbrev pub event_fault_text : Option EventFault → List ℕ
 event_fault_text None = []
 event_fault_text (Some event_fault) = event_fault_line event_fault
 
--- out took the text of the log that the events of the script bring, and why they end
+-- The output is the text of the log that the events of the script bring, and the line about a
+-- refused line.
 pub record PutsReplay (h : Hearing Ask Answer) (script : Script) (log : List LogEntry)
     (out : Span SinkSeen) : Type 0 where
   pub text : List ℕ
@@ -157,10 +159,10 @@ status_by (Some event_fault) = statuses.LineRefused
 
 -- ---- the promise
 
--- a replay was faithful: the bytes of its file spell an application; a store was attached for it; a
--- log that is faithful leads from what the store had then to what it has at the end, with an entry
--- for each request that the events bring; and what was put are the lines of this log, of which the
--- audit's name the labels
+-- A replay was faithful. The bytes of its file are the text of an application, and a store was
+-- attached for it. A faithful log leads from the first state of the store to its state at the end,
+-- with an entry for each request that the events bring. The output has the lines of this log, and
+-- the audit has the labels.
 pub record HasReplayedFaithfully {L : Type 0} (replay : Replay) (given : Given) (top : TopRun L) :
     Type 0 where
   pub app : Application
@@ -174,10 +176,10 @@ pub record HasReplayedFaithfully {L : Type 0} (replay : Replay) (given : Given) 
   pub audit_took : Took top.seen.audit (audit_lines log)
   pub ended : top.status ≡ status_by (script_of given.events).refused
 
--- ---- the same of a serve
+-- ---- the promise of a serve
 
--- a serve was faithful: as a replay, and link by link, of those that the door gave and was handed
--- back, the log has what each brought, and its replies went there
+-- A serve was faithful in the same way. The log has the requests of each connection, one connection
+-- after another, and the replies went to the connections.
 pub record HasServedFaithfully {L : Type 0} (serving : ServeArgs) (top : TopRun L) : Type 0 where
   pub app : Application
   pub sessions : List Session

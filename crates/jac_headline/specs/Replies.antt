@@ -1,5 +1,5 @@
--- What each reply of a serve is: the right page, the refusal of its cause, or what stands for want
--- of memory or for a fault of the store.
+-- What each reply of a serve is: the right page, the refusal of its cause, or the report that
+-- memory ran out or that the store failed.
 use Rattle.std.specs.Prelude.{◌≡◌, ◌⊎◌, ℕ, Bool, Option, Some, None, List, [], ◌∷◌, ◌++◌}
 use Rattle.jac_io.specs.Faults.{Rose}
 use Rattle.jac_lang.specs.Syntax.{Application}
@@ -12,30 +12,30 @@ use Rattle.jac_serve_events.specs.AnswerSpec.{LogSubject, LogEntry}
 use Rattle.jac_serve_events.specs.Outside.{Span}
 use Rattle.jac_headline.specs.Headline.{IsRightPage, IsRefusedAsFound, HasEntry, world_behind}
 
--- it is the right page under the labels that its line of the audit names
+-- The reply is the right page under the labels that its audit line names.
 pub record IsPageReply (lazy : Bool) (app : Application) (before behind : Worlds)
     (entry : LogEntry) : Type 0 where
   pub labels : List ℕ
   pub shown : entry.answer.shown ≡ Some labels
   pub right : IsRightPage lazy app before behind entry labels
 
--- the request finds no view, or one that has no number left; or its bytes are no request
+-- The request finds no view, or there are no numbers left, or its bytes are no request.
 abbrev pub IsRefusedFor : Application → Worlds → LogSubject → ℕ → Type 0
 IsRefusedFor app worlds (whole ask closes) status =
     IsRefusedAsFound (found app ask.method ask.path) worlds status
 IsRefusedFor app worlds (refused code) status = status ≡ code
 IsRefusedFor app worlds broken status = ⊥
 
--- it has no page, and the status of its cause
+-- The reply has no page, and it has the status of its cause.
 pub record IsRefusalReply (app : Application) (before : Worlds) (entry : LogEntry) : Type 0 where
   pub no_page : entry.answer.shown ≡ None
   pub cause : IsRefusedFor app before entry.subject entry.answer.status
 
--- it stands for want of memory
+-- The reply says that the request ran out of memory.
 abbrev pub IsMemoryReply : LogEntry → Type 0
 IsMemoryReply entry = entry.answer ≡ refusal 500 None
 
--- it stands for a fault of the store, whose count of faults rose
+-- The reply reports a fault of the store, and the store's count of faults rose.
 pub record IsFaultReply (store : Span KeeperSeen) (entry : LogEntry) : Type 0 where
   pub answer : entry.answer ≡ refusal 503 None
   pub rose : Rose store.before.faults store.after.faults
@@ -45,7 +45,7 @@ IsRightReply lazy app store before behind entry =
     IsPageReply lazy app before behind entry ⊎ IsRefusalReply app before entry
     ⊎ IsMemoryReply entry ⊎ IsFaultReply store entry
 
--- each entry of the log, in the worlds that those before it leave of what the store showed
+-- Each entry of the log is right, in the worlds after the entries before it.
 abbrev pub AreRightReplies : Bool → Application → Span KeeperSeen → List LogEntry → Type 0
 AreRightReplies lazy app store log =
     (before : List LogEntry) (entry : LogEntry) → HasEntry log before entry

@@ -1,6 +1,4 @@
-//! The promise of a replay as one law to quote, and laws that follow: nothing that a policy forbids
-//! is shown, what is hidden changes no byte, a write leaves all other worlds alone, and each reply
-//! of a serve is a right page or has a cause.
+//! The promise as one law, and laws that follow from it.
 #![tactic(auto)]
 
 mod laws;
