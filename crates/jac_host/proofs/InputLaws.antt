@@ -1,4 +1,4 @@
--- what the reads of a connection gave agrees with each of them
+-- What the reads of a connection gave agrees with each of them.
 use Rattle.std.specs.Prelude.{◌==◌, ◌||◌, not}
 use Rattle.std.proofs.Common.{◌≡◌, ℕ, Bool, true, false, IsTrue, List, [], ◌∷◌, ◌++◌, length, take, refl, sym, arith}
 use Rattle.std.proofs.lemmas.Grind.{common_steps}
@@ -55,7 +55,7 @@ with_more (Gave bytes ∷ events) more ends none =
     let left : IsTrue (brings ((bytes_given events ++ bytes) ++ more) events) = rw same at rest in
     and_from _ _ on left
 
--- where no read gave bytes after one that gave nothing
+-- If no read gave bytes after one that gave nothing.
 pub given_agrees : (events : List Event) → IsTrue (ends_for_good events) → IsTrue (brings (bytes_given events) events)
 given_agrees events ends =
     let all : IsTrue (brings (bytes_given events ++ []) events) = with_more events [] ends (λ e. refl) in

@@ -1,4 +1,4 @@
--- what a read leaves of the input that is supposed
+-- What a read leaves of the supposed input.
 use Rattle.std.specs.Prelude.{◌==◌, if◌then◌else◌}
 use Rattle.std.specs.Str.{bytes_eq}
 use Rattle.std.proofs.Common.{◌≡◌, ℕ, Bool, false, ◌+◌, ◌≤◌, true, IsTrue, List, [], ◌∷◌, ◌++◌, length, take, drop, map, refl, sym, ◌∙◌, ap, arith, zero, suc}
@@ -11,12 +11,12 @@ use Rattle.jac_host.specs.Gave.{goes_on}
 use Rattle.jac_host.specs.Links.{input_at, fresh_link}
 use Rattle.jac_host.specs.Wrote.{OnlyWrites}
 
--- what stands after the front of a list
+-- What follows the front of a list.
 behind : (before bytes rest : List ℕ) → drop (length before) ((before ++ bytes) ++ rest) ≡ bytes ++ rest
 behind [] bytes rest = refl
 behind (b ∷ bs) bytes rest = behind bs bytes rest
 
--- where a read gave nothing, nothing is left
+-- If a read gave nothing, nothing is left.
 pub at_end : (whole before : List ℕ) → IsTrue (goes_on whole before []) → drop (length before) whole ≡ []
 at_end whole before h =
     let same : whole ≡ before ++ [] = (bytes_eq-Decides whole (before ++ [])).0 h in
@@ -26,7 +26,7 @@ otherwise : (one other bytes : List ℕ) (e : Bool) → e ≡ false → IsTrue (
 otherwise one other bytes true not_one h = cc
 otherwise one other bytes false not_one h = h
 
--- after what was given the input goes on with what a read gave
+-- After the bytes that were given before, the input continues with the bytes of this read.
 pub goes_further : (whole before bytes : List ℕ) → IsTrue (goes_on whole before bytes)
     → drop (length before) whole ≡ bytes ++ drop (length (before ++ bytes)) whole
 goes_further whole before [] h =
@@ -40,7 +40,7 @@ goes_further whole before (b ∷ bs) h =
     sym (take-append-drop n whole) ∙ ap (λ k. k ++ drop n whole) front in
     ap (drop (length before)) all ∙ behind before (b ∷ bs) (drop n whole)
 
--- the first of those to come is the next input
+-- The first connection that is still to come has the next input.
 pub next_comes : (inputs : List (List ℕ)) (n : ℕ) → n + 1 ≤ length inputs
     → map fresh_link (drop n inputs) ≡ fresh_link (input_at inputs n) ∷ map fresh_link (drop (n + 1) inputs)
 next_comes [] n h = absurd (omega (arith, h))
@@ -48,7 +48,7 @@ next_comes (i ∷ is) zero h = refl
 next_comes (i ∷ is) (suc n) h =
     let one : suc n + 1 ≡ suc (n + 1) = omega arith in rw one (next_comes is n (omega (arith, h)))
 
--- writes after writes
+-- Writes followed by writes.
 pub written_on : (old mid new : List Event) → OnlyWrites old mid → OnlyWrites mid new → OnlyWrites old new
 written_on old mid new a b = record {
   given = b.given ∙ a.given;

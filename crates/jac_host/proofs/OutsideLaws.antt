@@ -1,5 +1,5 @@
--- The bound `Outside` asks nothing of its members. So what is proved of a function over `O: Outside`
--- holds of the code at `Unknown`, for any files and any inputs.
+-- The bound `Outside` requires nothing of its members. So what is proved of a function over `O:
+-- Outside` is true of the code at `Unknown`, for any files and any inputs.
 use Rattle.std.proofs.Common.{ℕ, List, Option}
 use seplogic.Ra.Ura.{Ura}
 use mir.Syntax.{Dict}

@@ -1,9 +1,10 @@
--- what the system was asked, and what it answered
+-- The events of a journal: what was requested of the system, and what it gave and took.
 use Rattle.std.specs.Prelude.{ℕ, List, Option}
 
--- a file was asked for; it was opened; a read gave these bytes, none only where it had come to the
--- end, or where none came in time; a write took these bytes; an audit was aimed at this file or at
--- none; a port is listened on; a connection came
+-- `Asks`: a file was requested. `Opened`: it was opened. `Gave`: a read gave these bytes. It gave
+-- none only at the end, or if none came in time. `Took`: a write took these bytes. `Aimed`: an
+-- audit was directed to this file or to none. `Listens`: the program listens on a port. `Came`: a
+-- connection came.
 pub data Event : Type 0 where
   Asks : List ℕ → Event
   Opened : List ℕ → Event

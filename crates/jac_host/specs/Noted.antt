@@ -1,4 +1,4 @@
--- what a note adds to a journal
+-- What a note adds to a journal.
 use Rattle.std.specs.Prelude.{List, ◌∷◌, option_map}
 use Rattle.jac_host.specs.Events.{Event, Asks, Opened, Gave, Took, Aimed, Listens, Came}
 use Rattle.jac_host.specs.declared.journal.Note.{Note}
@@ -13,6 +13,6 @@ note_event (notes.Aimed name) = Aimed (option_map (λ n. n.now) name)
 note_event (notes.Listens port) = Listens port
 note_event notes.Came = Came
 
--- the newest first
+-- The newest event comes first.
 abbrev pub with_note : List Event → Note → List Event
 with_note events note = note_event note ∷ events

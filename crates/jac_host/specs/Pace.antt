@@ -7,13 +7,15 @@ use Rattle.jac_host.specs.declared.pace.Pace.{Pace}
 use Rattle.jac_host.specs.declared.pace.Phase.{Phase}
 use Rattle.jac_host.specs.declared.pace.Phase.TheVariants.{Fresh, Kept, Within}
 
--- for how many nanoseconds: a tenth of a second, a fiftieth, and three seconds
+-- How many nanoseconds the host waits: 0.1 s on a fresh connection, 0.02 s for a further request,
+-- and 3 s within a request.
 abbrev pub time_allowed : Phase → ℕ
 time_allowed Fresh = 100_000_000
 time_allowed Kept = 20_000_000
 time_allowed Within = 3_000_000_000
 
--- when the request began whose bytes were taken now: earlier, where some of it had come before
+-- When the request began whose bytes were taken at `now`. It began earlier if a part of it had come
+-- before.
 abbrev pub begun_in : Phase → Instant → Instant → Instant
 begun_in Fresh since now = now
 begun_in Kept since now = now
@@ -22,7 +24,7 @@ begun_in Within since now = since
 abbrev pub phase_began : Pace → Instant → Instant
 phase_began pace now = begun_in pace.phase pace.since now
 
--- what is waited for after a reply, by where the bytes stand
+-- What the host waits for after a reply, by the place that the bytes have reached.
 abbrev pub phase_behind : Spot → Phase
 phase_behind Between = Kept
 phase_behind (Name matched body) = Within

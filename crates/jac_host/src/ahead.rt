@@ -1,4 +1,4 @@
-//! What is read of a connection before it is handed out, and its input as its link takes it.
+//! What is read from a connection before it is handed out, and the input that its link takes.
 ghost use Rattle.std.specs.Prelude.{◌≡◌, ◌≤◌, ◌<◌, false, [], ◌++◌, length, take, IfOk, MatchResult};
 ghost use Rattle.jac_host.specs.Held.{Held};
 
@@ -16,10 +16,10 @@ const CHUNK: usize = 8_192;
 // How many bytes the head of a request may have.
 const HEAD: usize = 8_192;
 
-// How many bytes are held at most: those of a head and of a body.
+// How many bytes are held at most: a head and a body.
 const MOST: usize = 73_728;
 
-/// What reads gave of a connection that waits. Each read is noted as it is made.
+/// What reads gave from a waiting connection. Each read is noted when it is made.
 #[derive(Drop)]
 pub(crate) struct Ahead {
     bytes: Vec<u8>,
@@ -49,8 +49,8 @@ impl Ahead {
         }
     }
 
-    /// Reads once, and gives the number of bytes: none where the peer ended the connection. Where
-    /// memory lacks, it fails and reads nothing.
+    /// Reads once and returns the number of bytes, which is 0 if the peer ended the connection. If
+    /// memory runs out, it fails and reads nothing.
     pub(crate) fn read(&mut self, stream: &mut TcpStream) -> io::Result<usize> {
         self.bytes.reserve_exact(CHUNK)?;
         let mut chunk = [0u8; CHUNK];
@@ -64,7 +64,7 @@ impl Ahead {
         Ok(count)
     }
 
-    /// Whether a request is there, or as much as is waited for.
+    /// Whether a whole request was read, or as much as the host waits for.
     pub(crate) fn is_enough(&self) -> bool {
         let count = self.bytes.len();
         self.whole || count >= MOST || count > HEAD && !self.spot.is_in_body()
@@ -95,7 +95,7 @@ impl Model for Input {
 }
 
 impl Input {
-    /// That of a connection of which nothing was taken.
+    /// The input of a connection from which nothing was taken.
     pub(crate) fn new(ahead: Ahead) -> Input
         ensures { result.rest ≡ result.whole }
     {
@@ -107,14 +107,14 @@ impl Input {
         }
     }
 
-    /// Whether some of what was read ahead wasn't taken yet.
+    /// Whether some bytes that were read ahead weren't taken yet.
     pub(crate) fn holds(&self) -> bool
         ensures { result ≡ false → self.now.rest ≡ [] }
     {
         self.taken < self.bytes.len()
     }
 
-    /// Takes some of what was read ahead.
+    /// Takes bytes that were read ahead.
     pub(crate) fn take(&mut self, into: &mut [u8]) -> usize
         ensures within { result ≤ length into.new }
         ensures same_length { length into.new ≡ length into.old }

@@ -1,5 +1,5 @@
-//! The calls of the system, one a function, each noted with what it answered. That a file is asked
-//! for is noted before. Nothing else notes.
+//! The calls of the system, one per function. Each is noted with its result. A request for a file
+//! is noted before the call. No other code writes notes.
 ghost use Rattle.std.specs.Prelude.{◌≡◌, ◌≤◌, ◌<◌, [], ◌∷◌, Some, None, length, take, IfOk, OnOk, OnErr, MatchResult};
 ghost use Rattle.jac_host.specs.Events.{Asks, Opened, Gave, Took, Aimed, Listens, Came};
 
@@ -11,7 +11,7 @@ use std::io;
 use std::io::{ErrorKind, Read, Write};
 use std::net::{Ipv4Addr, SocketAddr, TcpListener};
 
-/// Asks for a file, and opens it.
+/// Requests a file and opens it.
 pub(crate) fn open_file(rt: &HostRuntime, journal: &mut Journal, name: &str) -> io::Result<File>
     ensures { MatchResult result
         (λ _. journal.new.events ≡ Opened name.now ∷ Asks name.now ∷ journal.old.events)
@@ -23,7 +23,8 @@ pub(crate) fn open_file(rt: &HostRuntime, journal: &mut Journal, name: &str) -> 
     Ok(file)
 }
 
-/// Opens a file for an audit, which goes on after what it holds, or makes it.
+/// Opens a file for an audit. Writes are appended to what it holds. If the file doesn't exist, it
+/// is made.
 pub(crate) fn open_audit(rt: &HostRuntime, journal: &mut Journal, name: &str) -> io::Result<File>
     ensures { MatchResult result
         (λ _. journal.new.events ≡ Aimed (Some name.now) ∷ journal.old.events)
@@ -34,14 +35,14 @@ pub(crate) fn open_audit(rt: &HostRuntime, journal: &mut Journal, name: &str) ->
     Ok(file)
 }
 
-/// An audit is aimed at no file, which is no call.
+/// Notes that an audit is directed to no file. The system isn't called.
 pub(crate) fn aim_nowhere(journal: &mut Journal)
     ensures { journal.new.events ≡ Aimed None ∷ journal.old.events }
 {
     *journal = journal.then(&Note::Aimed(None));
 }
 
-/// Reads once. A read that has room and gives no bytes is at the end.
+/// Reads once. A read that has room and gives no bytes is at the end of the input.
 pub(crate) fn read_once<R: Read>(
     from: &mut R,
     journal: &mut Journal,
@@ -59,14 +60,14 @@ pub(crate) fn read_once<R: Read>(
     Ok(count)
 }
 
-/// Bytes that a read gave are handed on, which is no call.
+/// Notes that bytes of an earlier read are handed on. The system isn't called.
 pub(crate) fn hand_on(journal: &mut Journal, bytes: &[u8])
     ensures { journal.new.events ≡ Gave bytes.now ∷ journal.old.events }
 {
     *journal = journal.then(&Note::Gave(bytes));
 }
 
-/// Nothing came in time, which counts as a read at the end.
+/// Notes that nothing came in time. It counts as a read at the end of the input.
 pub(crate) fn none_came(journal: &mut Journal)
     ensures { journal.new.events ≡ Gave [] ∷ journal.old.events }
 {
@@ -89,15 +90,15 @@ pub(crate) fn write_once<W: Write>(
     Ok(count)
 }
 
-/// Bytes are dropped, since an audit is aimed at no file, which is no call.
+/// Notes that bytes are dropped, because the audit is directed to no file. The system isn't called.
 pub(crate) fn drop_bytes(journal: &mut Journal, bytes: &[u8])
     ensures { journal.new.events ≡ Took bytes.now ∷ journal.old.events }
 {
     *journal = journal.then(&Note::Took(bytes));
 }
 
-/// Listens on this port of the machine itself, where no other machine reaches it. If a listening
-/// socket was handed in, that one is used, and has to have this address.
+/// Listens on this port of the loopback address, which no other machine reaches. If a listening
+/// socket was handed in, that one is used. It must have this address.
 pub(crate) fn listen(rt: &HostRuntime, journal: &mut Journal, port: u16) -> io::Result<Room>
     ensures { MatchResult result
         (λ _. journal.new.events ≡ Listens port ∷ journal.old.events)
@@ -113,8 +114,8 @@ pub(crate) fn local_address(port: u16) -> SocketAddr {
     SocketAddr::from((Ipv4Addr::LOCALHOST, port))
 }
 
-// The listener that was handed in, which has to listen at this address, or a new one, whose queue
-// is as long as the system allows.
+// The listener that was handed in, or a new one. A listener that was handed in must have this
+// address. The queue of a new one is as long as the system allows.
 fn listener_of(rt: &HostRuntime, address: SocketAddr) -> io::Result<TcpListener> {
     let Some(listener) = inherited(rt) else {
         return Ok(TcpListener::from(mio::net::TcpListener::bind(rt, address)?));
@@ -125,7 +126,7 @@ fn listener_of(rt: &HostRuntime, address: SocketAddr) -> io::Result<TcpListener>
     Ok(listener)
 }
 
-/// A connection came. Its own journal goes on from that of its door.
+/// Notes that a connection came. Its own journal continues that of its door.
 pub(crate) fn one_came(journal: &mut Journal) -> Journal
     ensures door { journal.new.events ≡ Came ∷ journal.old.events }
     ensures link { result.events ≡ Came ∷ journal.old.events }

@@ -18,8 +18,8 @@ use std::marker::PhantomData;
 use std::net::{TcpListener, TcpStream};
 use std::time::Instant;
 
-/// A port of the host, for connections from the host itself. It tells the connections that are
-/// supposed, as long as no more came, and always waits for one more.
+/// A port of the host, for connections from the same machine. They are known as long as no more
+/// connections came than are supposed. The door always waits for one more.
 #[derive(Drop)]
 pub struct HostDoor<'r, O: Outside> {
     rt: &'r HostRuntime,
@@ -98,15 +98,16 @@ impl<O: Outside> Door for HostDoor<'_, O> {
     }
 }
 
-// Says where connections are taken from now on.
+// Prints to standard error the address on which the program listens.
 fn tell_listening(rt: &HostRuntime, listener: &TcpListener) {
     if let Ok(address) = listener.local_addr() {
         let _ = eprintln!(rt; "listening on {address}");
     }
 }
 
-// The next connection, what was read of it, and when it was handed out. A reply is one write, so it
-// needn't wait for more to be sent with it; where the host refuses that, it is done without.
+// The next connection, what was read from it, and when it was handed out. A reply is one write, so
+// TCP needn't wait for more bytes to send with it. If the host refuses that setting, the connection
+// works without it.
 fn next_stream(
     rt: &HostRuntime,
     room: &mut Option<Room>,

@@ -3,7 +3,7 @@ ghost use Rattle.jac_io.specs.Faults.{Rose};
 
 use jac_io::Failed;
 
-// A call failed, which is counted.
+// Counts a failed call.
 pub(crate) fn counted(faults: &mut u64) -> Failed
     ensures later { faults.old ≤ faults.new }
     ensures rose { Rose faults.old faults.new }

@@ -16,7 +16,8 @@ use std::marker::PhantomData;
 
 const CHUNK: usize = 65536;
 
-/// The files of the host. They tell what is supposed of them, as long as each read agreed with it.
+/// The files of the host. Their contents are known as long as each read agreed with what is
+/// supposed.
 #[derive(Drop)]
 pub struct HostFiles<'r, O: Outside> {
     rt: &'r HostRuntime,
@@ -56,7 +57,7 @@ impl<O: Outside> Files for HostFiles<'_, O> {
     }
 }
 
-// Why a file wasn't read, and what the host said.
+// Why a file wasn't read, and what the host reported.
 #[derive(Drop)]
 enum Unread {
     Failed(io::Error),

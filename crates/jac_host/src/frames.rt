@@ -1,36 +1,35 @@
-//! Where the bytes of a connection stand, between two requests or within one (RFC 9112, section 6).
-//! What it tells decides only how long the host waits for more: requests are read above.
+//! The place in a connection's input, between two requests or within one (RFC 9112, section 6). It
+//! decides only how long the host waits for more bytes. The crates above parse the requests.
 
-// The field that tells how long a body is, with its colon.
+// The name of the field with the body's length, with its colon.
 const LENGTH: [u8; 15] = *b"content-length:";
 
-// A longer body is refused by its head alone.
+// A request with a longer body is refused after its head.
 const LONGEST: u64 = 65_536;
 
-/// Where a connection stands after the bytes so far.
+/// The place that the bytes of a connection have reached.
 #[derive(Clone, Copy, PartialEq, Eq)]
 pub(crate) enum Spot {
-    /// After a whole request, or ahead of the first.
+    /// After a whole request, or before the first.
     Between,
-    /// In a line of a head, whose first bytes so far are so many of those that tell the body's
-    /// length.
+    /// In a line of a head. The line so far is the first `matched` bytes of `LENGTH`.
     Name { matched: usize, body: u64 },
-    /// In the line of a head that tells the body's length.
+    /// In the line of a head that gives the body's length.
     Length { body: u64 },
     /// In another line of a head.
     Line { body: u64 },
-    /// In a body of which so many bytes are to come.
+    /// In a body that has `left` more bytes to come.
     Body { left: u64 },
 }
 
 impl Spot {
-    /// Whether a head ended, and its body not yet.
+    /// Whether the head has ended and the body hasn't.
     pub(crate) fn is_in_body(self) -> bool {
         matches!(self, Spot::Body { .. })
     }
 }
 
-/// Where the connection stands after these bytes more.
+/// The place after these further bytes.
 pub(crate) fn spot_behind(spot: Spot, bytes: &[u8]) -> Spot {
     let mut spot = spot;
     'bytes: for byte in bytes {
@@ -39,7 +38,8 @@ pub(crate) fn spot_behind(spot: Spot, bytes: &[u8]) -> Spot {
     spot
 }
 
-/// Whether a request ends within these bytes more, or one begins whose body is too long for any.
+/// Whether a request ends within these further bytes, or one begins with a body that is too long to
+/// be accepted.
 pub(crate) fn ends_request(spot: &mut Spot, bytes: &[u8]) -> bool {
     let mut ends = false;
     'bytes: for byte in bytes {
@@ -54,7 +54,7 @@ pub(crate) fn ends_request(spot: &mut Spot, bytes: &[u8]) -> bool {
     ends
 }
 
-// After one byte more. Empty lines ahead of a request belong to none.
+// The place after one more byte. Empty lines before a request belong to no request.
 fn next_spot(spot: Spot, byte: u8) -> Spot {
     match (spot, byte) {
         (Spot::Between, b'\r' | b'\n') => Spot::Between,
@@ -76,7 +76,7 @@ fn next_spot(spot: Spot, byte: u8) -> Spot {
     }
 }
 
-// Ahead of so many bytes of a body.
+// The place before a body of `left` bytes.
 fn behind_head(left: u64) -> Spot {
     if left == 0 {
         Spot::Between
@@ -85,7 +85,7 @@ fn behind_head(left: u64) -> Spot {
     }
 }
 
-// After a letter of a line that began as the one that tells the body's length.
+// The place after a letter of a line that matches `LENGTH` so far.
 fn behind_letter(matched: usize, body: u64, byte: u8) -> Spot {
     let letter = byte.to_ascii_lowercase();
     match LENGTH.get(matched) {
@@ -94,7 +94,7 @@ fn behind_letter(matched: usize, body: u64, byte: u8) -> Spot {
     }
 }
 
-// Where so many bytes of the line are those that tell the body's length.
+// The place in a line of which `matched` bytes are those of `LENGTH`.
 fn behind_match(matched: usize, body: u64) -> Spot {
     if matched == LENGTH.len() {
         Spot::Length { body: 0 }

@@ -1,10 +1,10 @@
-//! What was handed back, for clauses alone.
+//! The values that were handed back, for contracts alone.
 ghost use Rattle.std.specs.Prelude.{◌≡◌, List, [], ◌∷◌, ◌++◌};
 ghost use Rattle.std.specs.Borrow.{ftrue};
 
 use std::marker::{Model, PhantomData};
 
-/// The values so far, in order. It takes no bytes.
+/// The values so far, in order. It is ghost data and takes no bytes.
 #[derive(Drop)]
 pub struct Handed<T> {
     of: PhantomData<T>,
@@ -22,7 +22,7 @@ impl<T> Handed<T> {
         Handed { of: PhantomData }
     }
 
-    /// With one value more.
+    /// With one more value.
     pub fn and(&self, item: &T) -> Handed<T>
         ensures { result.items ≡ self.now.items ++ item.now ∷ [] }
     {

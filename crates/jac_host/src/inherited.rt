@@ -1,5 +1,5 @@
-//! A port on which whoever started the program listens already, and which it handed over, as
-//! systemd does for a socket unit (sd_listen_fds(3)).
+//! A listening port that the program inherits from the process that started it, as systemd hands
+//! one over for a socket unit (sd_listen_fds(3)).
 use os::FromRawFd;
 use std::net::TcpListener;
 use std::{env, process};
@@ -7,8 +7,8 @@ use std::{env, process};
 // The first descriptor that is handed over.
 const FIRST: i32 = 3;
 
-/// The port that was handed over to this process, if one was. It takes the descriptor, so it is
-/// called once.
+/// The port that was handed over to this process, if there is one. It takes ownership of the
+/// descriptor, so it is called once.
 pub(crate) fn inherited(rt: &HostRuntime) -> Option<TcpListener> {
     let whose = number(rt, "LISTEN_PID")?;
     let count = number(rt, "LISTEN_FDS")?;
@@ -19,7 +19,7 @@ pub(crate) fn inherited(rt: &HostRuntime) -> Option<TcpListener> {
     }
 }
 
-// The number that the environment has under this name.
+// The number in this environment variable.
 fn number(rt: &HostRuntime, name: &str) -> Option<u32> {
     env::var(rt, name).ok()?.parse().ok()
 }

@@ -1,12 +1,12 @@
-//! What the system was asked and what it answered, for clauses alone.
+//! What the system was asked and what it answered, for contracts alone.
 ghost use Rattle.std.specs.Prelude.{◌≡◌, List, []};
 ghost use Rattle.std.specs.Borrow.{ftrue};
 ghost use Rattle.jac_host.specs.Events.{Event};
 
 use std::marker::Model;
 
-/// The events so far, the newest first. No memory holds them: it takes no bytes. So a note is true
-/// only where the call that it notes stands beside it.
+/// The events so far, the newest first. It is ghost data and takes no bytes. So a note is true only
+/// if the call that it notes is made beside it.
 #[derive(Drop)]
 pub struct Journal {
     pub ghost events: { List Event },
@@ -16,7 +16,7 @@ impl Model for Journal {
     ghost also_owns = { λ _. ftrue };
 }
 
-/// One question to the system, or one answer of it.
+/// One request to the system, or one answer of it.
 #[derive(Clone, Copy)]
 pub enum Note<'a> {
     Asks(&'a str),
@@ -37,7 +37,7 @@ impl Journal {
         Journal {}
     }
 
-    /// The journal with one event more.
+    /// The journal with one more event.
     pub fn then(&self, _note: &Note<'_>) -> Journal
         ensures { result.events ≡ with_note self.now.events _note.now }
     {

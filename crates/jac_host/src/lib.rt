@@ -1,6 +1,5 @@
-//! The host's files, audit, standard output, connections and their door. Each tells what the system
-//! took, and what it gave as far as that is what is supposed of the outside; each counts its own
-//! failures, and says on standard error what the host said of them.
+//! Implements the traits of `jac_io` for the machine. A ghost journal says what the system gave and
+//! took. Each object counts its failures, and prints to standard error what the system reported.
 #![tactic(auto)]
 
 mod ahead;

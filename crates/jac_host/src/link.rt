@@ -21,16 +21,16 @@ use std::marker::{Model, PhantomData};
 use std::net::TcpStream;
 use std::time::{Duration, Instant};
 
-// How long a put may take, however slowly its bytes are read.
+// How long a put may take, even if the peer reads slowly.
 const PUT_MILLIS: u64 = 3_000;
 
-// How many times what has arrived is read away as a connection ends.
+// How many reads at most discard the input that has arrived when a connection ends.
 const LAST_READS: u32 = 64;
 
-/// A connection of the host. It tells the input that is supposed of it, as long as each take agreed
-/// with that, and the bytes that writes took. Each put is written through at once. Its input is at
-/// its end where the peer ended it, and where what is waited for didn't come in time: its first
-/// byte, the rest of a request, or one more request after a reply. From then on it reads nothing.
+/// A connection of the host. Its contents are known as long as each take agreed with the supposed
+/// input: the input that is left, and the bytes that writes took. Each put is written at once. The
+/// input ends if the peer ended it, or if the host waited in vain for the first byte, the rest of a
+/// request, or a further request after a reply. After that nothing is read.
 #[derive(Drop)]
 pub struct HostLink<O: Outside> {
     rt: HostRuntime,
@@ -94,8 +94,8 @@ impl<O: Outside> Link for HostLink<O> {
     }
 }
 
-// Takes what was read ahead, or else reads once. Where nothing came in time, the input ends. Where
-// the clock fails, the next call does.
+// Takes what was read ahead, or reads once if there is nothing. If nothing came in time, the input
+// ends. If the clock fails, the next call fails.
 #[tactic(auto, using(crate::proofs::HeldLaws::held_taken))]
 fn read_some(
     rt: &HostRuntime,
@@ -214,7 +214,7 @@ fn write_whole(
     Err(io::Error::from(ErrorKind::WriteZero))
 }
 
-// Writes once; after a signal none.
+// Writes once. After a signal no bytes are written.
 fn write_some(stream: &mut TcpStream, journal: &mut Journal, bytes: &[u8]) -> io::Result<usize>
     ensures within { IfOk result (λ count. count ≤ length bytes.now) }
     ensures took { MatchResult result
@@ -231,7 +231,7 @@ fn write_some(stream: &mut TcpStream, journal: &mut Journal, bytes: &[u8]) -> io
     }
 }
 
-/// A connection that came now, which is the next of its door.
+/// The link of a connection that came at `now`. It is the next connection of its door.
 pub(crate) fn link_of<O: Outside>(
     rt: &HostRuntime,
     door: &mut Journal,
@@ -254,7 +254,7 @@ pub(crate) fn link_of<O: Outside>(
     }
 }
 
-/// Ends a connection, and gives what is left of it for clauses.
+/// Ends a connection, and returns what is left of it for contracts.
 pub(crate) fn let_go<O: Outside>(line: HostLink<O>) -> HandedLink
     ensures { handed_seen O.inputs result ≡ line }
 {
@@ -269,8 +269,8 @@ pub(crate) fn let_go<O: Outside>(line: HostLink<O>) -> HandedLink
     HandedLink { journal, faults }
 }
 
-// Reads away what has arrived, without waiting for more: a connection that ends with input unread
-// is reset, and its peer may lose the last reply (RFC 9112, section 9.6).
+// Discards the input that has arrived, without waiting for more. A connection that ends with unread
+// input is reset, and its peer may lose the last reply (RFC 9112, section 9.6).
 fn read_away(stream: &mut TcpStream) {
     let mut rest = [0u8; 4096];
     if stream.set_nonblocking(true).is_err() {

@@ -1,16 +1,16 @@
-//! What is supposed of the outside, for clauses alone.
+//! What is supposed of the outside, for contracts alone.
 ghost use Rattle.std.specs.Prelude.{ℕ, List, [], Option, None};
 
-/// What each file holds, and what each connection brings, in the order in which the door gives
+/// The contents of each file, and the input of each connection in the order in which the door gives
 /// them. No code can read either, so a function over `O: Outside` is proved for all files and all
-/// input.
+/// inputs.
 pub trait Outside: Drop {
     ghost file: { List ℕ → Option (List ℕ) };
 
     ghost inputs: { List (List ℕ) };
 }
 
-/// For `main` to name: no file, and no connection.
+/// The outside that `main` names: no files and no connections.
 #[derive(Drop)]
 pub struct Unknown;
 

@@ -1,5 +1,5 @@
-//! How long the host waits for what a connection brings next, once it is handed out. Connections
-//! are served one after another, so whoever brings nothing then holds up all later ones.
+//! How long the host waits for the next bytes of a connection that was handed out. Connections are
+//! served one after another, so one that brings nothing delays all later ones.
 ghost use Rattle.std.specs.Prelude.{◌≡◌, ◌-◌};
 ghost use Rattle.std.specs.Time.{instant_nanos};
 ghost use Rattle.std.specs.Duration.{as_nanos};
@@ -8,18 +8,18 @@ ghost use Rattle.jac_host.specs.Pace.{time_allowed, phase_began, phase_behind};
 use crate::frames::{Spot, spot_behind};
 use std::time::{Duration, Instant};
 
-// How long a connection may bring nothing as it is handed out. What was read ahead isn't waited
-// for.
+// How long a connection may bring nothing after it is handed out. The host doesn't wait for bytes
+// that were read ahead.
 const FRESH_MILLIS: u64 = 100;
 
-// How long a connection may bring nothing after a reply: the next request of one that is kept may
-// be under way.
+// How long a connection may bring nothing after a reply. The next request of a connection that is
+// kept may be under way.
 const KEPT_MILLIS: u64 = 20;
 
-// How long a request may take from its first byte to its last, however its bytes come.
+// How long a request may take from its first byte to its last, even if its bytes come slowly.
 const REQUEST_MILLIS: u64 = 3_000;
 
-/// What a connection is waited for.
+/// What the host waits for on a connection.
 #[derive(Clone, Copy, PartialEq, Eq)]
 pub(crate) enum Phase {
     /// Its first byte.
@@ -30,7 +30,7 @@ pub(crate) enum Phase {
     Within,
 }
 
-/// What a connection is waited for, since when, and where its bytes so far stand.
+/// What the host waits for on a connection, since when, and the place that the bytes have reached.
 #[derive(Clone, Copy)]
 pub(crate) struct Pace {
     phase: Phase,
@@ -39,7 +39,7 @@ pub(crate) struct Pace {
 }
 
 impl Pace {
-    /// That of a connection that came now.
+    /// The pace of a connection that came at `now`.
     pub(crate) fn new(now: Instant) -> Pace
         ensures phase { result.phase ≡ Phase.Fresh }
         ensures since { result.since ≡ now }
@@ -51,7 +51,7 @@ impl Pace {
         }
     }
 
-    /// Bytes were taken: the first of a request begin its time, and no later ones.
+    /// Bytes were taken. The first bytes of a request start its time. Later ones don't.
     pub(crate) fn took(&mut self, bytes: &[u8], now: Instant)
         ensures phase { self.new.phase ≡ Phase.Within }
         ensures since { self.new.since ≡ phase_began self.old now }
@@ -64,8 +64,8 @@ impl Pace {
         self.spot = spot_behind(self.spot, bytes);
     }
 
-    /// A reply was put. Where the bytes so far go on after its request, they are a front of the
-    /// next one.
+    /// A reply was put. If bytes after its request were taken, they are the beginning of the next
+    /// request.
     pub(crate) fn put(&mut self, now: Instant)
         ensures phase { self.new.phase ≡ phase_behind self.old.spot }
         ensures since { self.new.since ≡ now }
@@ -75,7 +75,7 @@ impl Pace {
         self.phase = phase_behind(self.spot);
     }
 
-    /// How long it is waited for from now on.
+    /// How long the host waits after `now`.
     pub(crate) fn left(&self, now: Instant) -> Duration
         ensures { as_nanos result ≡ time_allowed self.now.phase - (instant_nanos now - instant_nanos
             self.now.since) }
@@ -89,7 +89,7 @@ impl Pace {
     }
 }
 
-// What is waited for after a reply, by where the bytes stand.
+// What the host waits for after a reply, by the place that the bytes have reached.
 fn phase_behind(spot: Spot) -> Phase
     ensures { result ≡ phase_behind spot }
 {

@@ -1,6 +1,7 @@
-//! Connections that came, and whose requests are waited for. Whoever brought one is served, whoever
-//! came before. Each is handed out once: when its request is there, when its peer ended it, or when
-//! its time is over, and then without what it might still bring.
+//! Connections that came and whose requests are still to arrive. A connection is served when its
+//! request is there, even if others came before it. Each is handed out once: when its request is
+//! there, when its peer ended it, or when its time is over. In the last case it can bring nothing
+//! more.
 use crate::ahead::Ahead;
 use mio::unix::SourceFd;
 use mio::{Events, Interest, Poll, Token};
@@ -11,16 +12,16 @@ use std::net::{Shutdown, TcpListener, TcpStream};
 use std::os::fd::AsRawFd;
 use std::time::{Duration, Instant};
 
-// How many connections may wait here. Where one more comes, the time of the first is over.
+// How many connections may wait here. If one more comes, the time of the first one is over.
 const SEATS: usize = 128;
 
 // How long a connection may wait here.
 const WAIT_MILLIS: u64 = 3_000;
 
-// How often it is told that connections were let go.
+// How much time lies at least between two messages about connections whose time was over.
 const TELL_MILLIS: u64 = 1_000;
 
-// A connection, what was read of it, and whether it is to be handed out.
+// A connection, what was read from it, and whether it is ready to be handed out.
 #[derive(Drop)]
 struct Waiting {
     stream: TcpStream,
@@ -31,13 +32,13 @@ struct Waiting {
 }
 
 impl Waiting {
-    // Its time is over.
+    // Ends the connection's time.
     fn end(&mut self) {
         let _ = self.stream.shutdown(Shutdown::Read);
         self.ready = true;
     }
 
-    // Reads what came. A connection that ended or failed brings no more.
+    // Reads what came. A connection that ended or failed brings nothing more.
     fn look(&mut self) {
         'reads: for _ in 0..u64::MAX {
             match self.ahead.read(&mut self.stream) {
@@ -91,7 +92,7 @@ impl Room {
         &self.listener
     }
 
-    /// The next connection that is handed out, and what was read of it.
+    /// The next connection that is handed out, and what was read from it.
     pub(crate) fn next(&mut self) -> io::Result<(TcpStream, Ahead)> {
         'turns: for _ in 0..u64::MAX {
             if let Some((stream, ahead)) = self.take_ready() {
@@ -104,8 +105,8 @@ impl Room {
         Err(io::Error::from(ErrorKind::TimedOut))
     }
 
-    // The first that came of those that are ready. The host may go on telling of it, under a token
-    // that nobody has here.
+    // The first of the ready connections, in the order in which they came. The host may still
+    // report events of it, under a token that no waiting connection has.
     fn take_ready(&mut self) -> Option<(TcpStream, Ahead)> {
         let place = self.waiting.iter().position(|one| one.ready)?;
         if place >= self.waiting.len() {
@@ -115,12 +116,13 @@ impl Room {
         Some((stream, ahead))
     }
 
-    // Lets one connection in, and says how long what it brings may be waited for: not at all where
-    // more may have come. The host tells of the port only after the last that came.
+    // Lets one connection in, and returns how long to wait for events. If more connections may have
+    // come, it doesn't wait. The host reports the port again only after the last of them was
+    // accepted.
     fn let_in(&mut self) -> io::Result<Option<Duration>> {
         match self.listener.accept() {
             Ok((stream, _)) => {
-                // whom the host refuses to tell of is let go
+                // If the host refuses to report its events, the connection is dropped.
                 let _ = self.seat(stream);
                 Ok(Some(Duration::ZERO))
             }
@@ -156,7 +158,8 @@ impl Room {
         Ok(())
     }
 
-    // How long nobody's time is over, and nothing is to be told.
+    // How long to wait: until the time of the first connection is over, or, if there is none, until
+    // a message is due.
     fn left(&mut self) -> io::Result<Option<Duration>> {
         let now = Instant::now(&self.rt)?;
         let untold = self.tell_let_go(now);
@@ -172,7 +175,8 @@ impl Room {
         Ok(Some(left))
     }
 
-    // Tells how many connections were let go, and says how long it waits to tell of more.
+    // Prints how many connections were let go because their time was over. If it is too early for a
+    // message, returns how long to wait for it.
     fn tell_let_go(&mut self, now: Instant) -> Option<Duration> {
         if self.let_go == 0 {
             return None;
@@ -190,7 +194,7 @@ impl Room {
         None
     }
 
-    // Waits until the host tells of the port or of somebody, and looks at whom it tells of.
+    // Waits until the host reports the port or connections, and reads from those connections.
     fn look(&mut self, wait: Option<Duration>) -> io::Result<()> {
         if let Err(error) = self.poll.poll(&mut self.events, wait) {
             return match error.kind() {
@@ -212,7 +216,7 @@ impl Room {
     }
 }
 
-// How much is left of so many milliseconds since then.
+// How much is left of so many milliseconds after `since`.
 fn time_left(now: Instant, since: Instant, millis: u64) -> Duration {
     Duration::from_millis(millis).saturating_sub(now.duration_since(since))
 }

@@ -1,4 +1,4 @@
-//! What bytes are written to. Each tells the bytes that writes took.
+//! What bytes are written to. The bytes that writes took are known.
 ghost use Rattle.std.specs.Prelude.{◌≡◌, ◌≤◌, [], ◌∷◌, ◌++◌, length, take, IfOk, OnOk, OnErr, MatchResult};
 ghost use Rattle.jac_io.specs.Put.{AddsPrefix};
 ghost use Rattle.jac_host.specs.Sinks.{took, aims, sink_seen};
@@ -13,7 +13,7 @@ use std::fs::File;
 use std::io;
 use std::io::{ErrorKind, Write};
 
-/// Standard output. Each put is written through at once. It tells the bytes that writes took.
+/// Standard output. Each put is written at once. The bytes that writes took are known.
 #[derive(Drop)]
 pub struct Stdout<'r> {
     rt: &'r HostRuntime,
@@ -48,9 +48,9 @@ impl Sink for Stdout<'_> {
     }
 }
 
-/// The audit's file, which an aim makes where it isn't there, and goes on after what it holds. An
-/// audit that is aimed at none takes its bytes and drops them. Each put is written through at once.
-/// It tells its aims and the bytes that it took.
+/// The audit's file. If it doesn't exist, aiming the audit makes it. Otherwise writes are appended
+/// to it. An audit that is directed to no file takes its bytes and drops them. Each put is written
+/// at once. Its aims and the bytes that it took are known.
 #[derive(Drop)]
 pub struct HostAudit<'r> {
     rt: &'r HostRuntime,
@@ -59,7 +59,7 @@ pub struct HostAudit<'r> {
     faults: u64,
 }
 
-// A file that is open, and its name.
+// An open file, and its name.
 #[derive(Drop)]
 struct Named {
     name: Txt,
@@ -103,7 +103,7 @@ impl AuditSink for HostAudit<'_> {
     }
 }
 
-// Writes once; after a signal none.
+// Writes once. After a signal no bytes are written.
 fn write_some<W: Write>(to: &mut W, journal: &mut Journal, bytes: &[u8]) -> io::Result<usize>
     ensures within { IfOk result (λ count. count ≤ length bytes.now) }
     ensures took { MatchResult result
@@ -121,7 +121,7 @@ fn write_some<W: Write>(to: &mut W, journal: &mut Journal, bytes: &[u8]) -> io::
     }
 }
 
-// Writes all the bytes, in as many writes as it takes.
+// Writes all the bytes, in as many writes as necessary.
 #[tactic(auto, using(crate::proofs::SinkLaws::front_put, crate::proofs::SinkLaws::more_put))]
 fn write_whole<W: Write>(to: &mut W, journal: &mut Journal, bytes: &[u8]) -> io::Result<()>
     ensures ok { OnOk result (took journal.new.events ≡ took journal.old.events ++ bytes.now) }
@@ -142,7 +142,7 @@ fn write_whole<W: Write>(to: &mut W, journal: &mut Journal, bytes: &[u8]) -> io:
     Err(io::Error::from(ErrorKind::WriteZero))
 }
 
-// An audit that is aimed at no file takes all, and drops it.
+// An audit that is directed to no file takes all bytes and drops them.
 fn write_to(
     rt: &HostRuntime,
     file: &mut Option<Named>,
@@ -169,7 +169,7 @@ fn write_to(
     }
 }
 
-// Opens the file, and notes the aim.
+// Opens the file, and notes that the audit is directed to it.
 fn open_named(
     rt: &HostRuntime,
     journal: &mut Journal,

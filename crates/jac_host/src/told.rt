@@ -1,10 +1,10 @@
-//! What the host said of what failed, on standard error. Where standard error takes nothing the run
-//! goes on without.
+//! Messages about failures, on standard error. If standard error takes nothing, the program
+//! continues without them.
 
 use std::fmt::Display;
 use std::io;
 
-/// Tells what the host said of this file, port or stream.
+/// Prints what the host reported about this file, port or stream.
 pub(crate) fn tell(rt: &HostRuntime, what: &impl Display, error: &io::Error) {
     let _ = eprintln!(rt; "jac: {what}: {error}");
 }

@@ -1,4 +1,4 @@
--- What comes has no bytes too, so it holds one value more.
+-- The result takes no bytes either, and it holds one more value.
 use Rattle.jac_io.proofs.Steps.{[], ◌∷◌, refl, proved, RefOf, yes, owns, shr_vals, shr_Tells, pure_i, plain, types_at, nothing, alive, Stays, walk_of, says, stay_dropped, Goes-dropped, ends_at, param, layouts, RattleType, inst_fn, Args, Fn, a_type, named, Val, vstruct, vcons, vnil, alloc_all, pass_all, free_all, look_at, get, sets, ‵, raw, ◌⊛◌, ◌$◌, ◌∵◌, !, qed, move, keep, split, fjoin, suffices, done, agg, enter, returns, and_then, no_more}
 use Rattle.std.proofs.Common.{◌++◌}
 use Rattle.jac_host.specs.contracts.handed.Handed.{the_row as R}

@@ -1,4 +1,4 @@
--- It has no bytes, so one of no values is made of nothing.
+-- It takes no bytes, so one without values is made of nothing.
 use Rattle.jac_io.proofs.Steps.{[], ◌∷◌, refl, proved, owns, types_at, pure_i, nothing, alive, Stays, walk_of, says, ends_at, param, layouts, RattleType, inst_fn, Args, Fn, a_type, Val, vstruct, vcons, vnil, alloc_all, pass_all, free_all, look_at, get, sets, ‵, raw, ◌⊛◌, ◌$◌, ◌∵◌, !, qed, move, keep, split, suffices, done, agg, enter, returns, and_then, no_more}
 use Rattle.jac_host.specs.contracts.handed.Handed.{the_row as R}
 use Rattle.jac_host.specs.contracts.handed.Handed.new as f

@@ -1,4 +1,4 @@
--- A journal has no bytes, so one of no events is made of nothing.
+-- A journal takes no bytes, so one without events is made of nothing.
 use Rattle.jac_io.proofs.Steps.{[], ◌∷◌, refl, proved, ftrue, pure_i, nothing, Stays, walk_of, says, ends_at, vstruct, vnil, alloc_all, free_all, look_at, sets, pass_all, ‵, raw, ◌⊛◌, ◌$◌, ◌∵◌, !, qed, move, keep, split, suffices, done, agg, enter, returns, no_more, alive}
 use Rattle.jac_host.specs.contracts.journal.Journal.{the_row as R}
 use Rattle.jac_host.specs.contracts.journal.Journal.new as f

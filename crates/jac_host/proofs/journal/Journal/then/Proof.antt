@@ -1,4 +1,4 @@
--- The journal that comes is one of no bytes too, so it holds what the note adds.
+-- The resulting journal takes no bytes either, and it holds what the note adds.
 use Rattle.jac_io.proofs.Steps.{[], ◌∷◌, refl, proved, ftrue, RefOf, yes, owns, shr_vals, shr_Tells, pure_i, plain, types_at, named_lft, nothing, alive, Stays, walk_of, says, stay_dropped, Goes-dropped, ends_at, named, vstruct, vnil, alloc_all, pass_all, free_all, look_at, sets, ‵, raw, ◌⊛◌, ◌$◌, ◌∵◌, !, qed, move, keep, split, fjoin, suffices, done, agg, enter, returns, no_more}
 use Rattle.jac_host.specs.Noted.{with_note}
 use Rattle.jac_host.specs.contracts.journal.Journal.{the_row as R}
