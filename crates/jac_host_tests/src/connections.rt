@@ -1,5 +1,6 @@
-//! Connections that a door of the host takes from clients, and what they bring. Most is in helpers
-//! that own little: a way out of a function drops what it owns, and each such drop is proved.
+//! Connections that a door of the host accepts from clients, and the bytes that they bring. Most of
+//! the code is in helpers that own little: each exit of a function drops what it owns, and each
+//! such drop is proved.
 ghost use Rattle.std.specs.Prelude.{◌≡◌, ◌<◌, ◌≤◌};
 
 use jac_host::{HostDoor, HostLink, Unknown};
@@ -12,7 +13,7 @@ const REQUEST: &[u8] = b"GET / HTTP/1.0\r\n\r\n";
 
 const REPLY: &[u8] = b"HTTP/1.1 204 No Content\r\n\r\n";
 
-// An address of the loopback at which nobody listens.
+// An address of the loopback interface on which nobody listens.
 fn free_address(rt: &HostRuntime) -> Result<SocketAddr, Fail> {
     let listener = TcpListener::bind(rt, "127.0.0.1:0")?;
     Ok(listener.local_addr()?)
@@ -24,14 +25,14 @@ fn open_door(rt: &HostRuntime, address: SocketAddr) -> Result<HostDoor<'_, Unkno
     Ok(door)
 }
 
-// Whether the next call takes these bytes of the connection, and no more.
+// Whether the next call takes exactly these bytes from the connection.
 fn takes(line: &mut HostLink<Unknown>, bytes: &[u8]) -> Result<bool, Failed> {
     let mut into = [0u8; 64];
     let count = line.take(&mut into)?;
     Ok(&into[..count] == bytes)
 }
 
-// Whether these bytes come to the client next, and no more.
+// Whether the client receives exactly these bytes next.
 fn is_sent(client: &mut TcpStream, bytes: &[u8]) -> Result<bool, Fail> {
     let mut into = [0u8; 64];
     let count = client.read(&mut into)?;
@@ -49,7 +50,7 @@ fn brings(door: &mut HostDoor<'_, Unknown>, bytes: &[u8]) -> Result<bool, Fail> 
     Ok(is_brought == Ok(true))
 }
 
-// Whether the next connection brings the request. It is answered.
+// Whether the next connection brings the request. The request is answered.
 fn is_answered(door: &mut HostDoor<'_, Unknown>) -> Result<bool, Fail> {
     let Some(line) = door.next()? else {
         return Ok(false);
@@ -117,7 +118,7 @@ fn whoever_brought_a_request_is_served_first(rt: HostRuntime) -> Result<(), Fail
     Ok(())
 }
 
-// Whether two calls take a head of 41 bytes and a body of 9000, whose end came last.
+// Whether two calls take a head of 41 bytes and a body of 9000 bytes, the end of which came last.
 fn takes_body(line: &mut HostLink<Unknown>) -> Result<bool, Failed> {
     let mut into = [0u8; 64];
     let head = line.take(&mut into)?;

@@ -1,5 +1,5 @@
-//! Tests of the host's connections, over the loopback of the machine. They stand above `jac_host`,
-//! so that it isn't proved once more for them.
+//! Tests of the connections of `jac_host`, over the loopback address. They have a crate of their
+//! own, so that `jac_host` isn't proved again for them.
 #![tactic(auto)]
 
 #[cfg(test)]
