@@ -39,12 +39,12 @@ not_waiting : {A : Type 0} (s : Supposed) (misnamed : Bool) → IsTrue (seen_wai
 not_waiting s true is = absurd (true≢false (sym is))
 not_waiting s false is = absurd (true≢false (sym is))
 
--- what is attached where there is no file is memory
+-- If there is no file, what is attached is memory.
 pub is_attached : (s : Supposed) (alone misnamed : Bool) (m : KeeperState) → IsTrue (seen_unfiled s alone misnamed m).store.attached → IsTrue m.store.attached
 is_attached s true misnamed m is = was_attached misnamed m.store is
 is_attached s false misnamed m is = not_waiting s misnamed is
 
--- and what a call asks of the state that is told, it asks of that of memory
+-- What a call requires of the known state, it requires of the state of memory.
 pub sound_in_memory : (s : Supposed) (alone misnamed : Bool) (m : KeeperState) (change : Change) → IsTrue (seen_unfiled s alone misnamed m).store.attached
     → (IsTrue (seen_unfiled s alone misnamed m).tells → IsSound (changed_state change (seen_unfiled s alone misnamed m).state)) → IsSound (changed_state change m.state)
 sound_in_memory s true misnamed m change is sound = sound refl
@@ -130,12 +130,12 @@ pub memory_reshapes : (s : Supposed) (alone misnamed : Bool) (old new : KeeperSt
 memory_reshapes s true misnamed old new change schema result is reshapes = reshapes_alone misnamed old new change schema result reshapes
 memory_reshapes s false misnamed old new change schema result is reshapes = not_waiting s misnamed is
 
--- ---- no file was asked for where there is none
+-- ---- no file was requested if there is none
 
 pub unopened_by : {V : Type 0} (seen : V → KeeperSeen) (h : HostSeen V) → IsHost seen h → h.file ≡ None → HasNoFile h
 unopened_by seen h host unfiled = (unfiled, λ un. host.waiting un unfiled)
 
--- ---- before anything was attached nothing was asked for in vain
+-- ---- before anything was attached nothing was requested in vain
 
 module _ {V : Type 0} (s : Supposed) (seen : V → KeeperSeen) where
   record IsFirst (h : HostSeen V) : Type 0 where
@@ -159,7 +159,7 @@ module _ {V : Type 0} (s : Supposed) (seen : V → KeeperSeen) where
   pub memory_first : (h : HostSeen V) → IsHost seen h → (seen_host s seen h).store.called ≡ false → h.alone ≡ true → h.memory.store.called ≡ false
   memory_first h host first alone = (first_in h.waits h.alone h.misnamed h.memory h.file host first).uncalled alone
 
-  -- what is seen of a vault that was not called
+  -- What is seen of a vault that wasn't called.
   seen_first_of : (h : HostSeen V) (alone : Bool) → h.alone ≡ alone → IsHost seen h → (seen_host s seen h).store.called ≡ false → seen_unfiled s alone false h.memory ≡ seen_host s seen h
   seen_first_of h alone is host first =
       let it = first_in h.waits h.alone h.misnamed h.memory h.file host first in
@@ -177,7 +177,7 @@ module _ {V : Type 0} (s : Supposed) (seen : V → KeeperSeen) where
 
   -- ---- memory is attached
 
-  -- what is seen of the vault then
+  -- What is seen of the vault then.
   seen_then : (h : HostSeen V) (new : KeeperState) → h.alone ≡ true → IsHost seen h → (seen_host s seen h).store.called ≡ false → seen_memory false new ≡ seen_host s seen (record h { memory = new })
   seen_then h new alone host first =
       let it = first_in h.waits h.alone h.misnamed h.memory h.file host first in
@@ -195,7 +195,7 @@ module _ {V : Type 0} (s : Supposed) (seen : V → KeeperSeen) where
   pub host_of_memory : (h : HostSeen V) (new : KeeperState) → IsHost seen h → IsTrue new.store.called → IsHost seen (record h { memory = new })
   host_of_memory h new host called = record { called = host.called; detached = λ un. absurd (true≢false (sym called ∙ un)); unused = λ un. absurd (true≢false (sym called ∙ un)); unfiled = host.unfiled; waiting = host.waiting }
 
-  -- ---- it is refused what it doesn't have
+  -- ---- it refuses what it doesn't have
 
   refuses : (memory : KeeperState) (name : Option (List ℕ)) (schema : List ℕ) (alone : Bool) → (IsTrue alone → memory.faults ≡ 0) → Attaches (seen_unfiled s alone false memory) (seen_unfiled s alone true memory) name schema (Err Failed)
   refuses memory name schema true unused =
@@ -221,7 +221,7 @@ module _ {V : Type 0} (s : Supposed) (seen : V → KeeperSeen) where
     known_other = λ stored is. absurd cc;
   }
 
-  -- what is seen of the vault then
+  -- What is seen of the vault then.
   seen_misnamed : (h : HostSeen V) → IsHost seen h → (seen_host s seen h).store.called ≡ false → seen_unfiled s h.alone true h.memory ≡ seen_host s seen (record h { misnamed = true })
   seen_misnamed h host first =
       let it = first_in h.waits h.alone h.misnamed h.memory h.file host first in
@@ -236,14 +236,14 @@ module _ {V : Type 0} (s : Supposed) (seen : V → KeeperSeen) where
 
   -- ---- what is attached
 
-  -- the file that was attached stands in the vault
+  -- The file that was attached is the vault's file.
   pub placed_in : (Begins : List ℕ → V → Type 0) (name schema : List ℕ) (h : HostSeen V) (f : ReopenSeen V) (result : Result (Unit {0}) AttachFault) → h.file ≡ Some f → f.again ≡ None
       → OnOk result (IsSomeAnd f.first (Begins schema)) → OnOk result (IsStorePlaced s seen Begins (Some name) schema h)
   placed_in Begins name schema h f (Ok done) some first begins =
       subst (λ (o : Option (ReopenSeen V)). IsSomeAnd o (λ (f : ReopenSeen V). (f.again ≡ None) × IsSomeAnd f.first (Begins schema))) (sym some) (first, begins)
   placed_in Begins name schema h f (Err e) some first begins = tt
 
-  -- memory that was attached tells
+  -- The state of attached memory is known.
   pub memory_placed : (Begins : List ℕ → V → Type 0) (h : HostSeen V) (new : KeeperState) (schema : List ℕ) (result : Result (Unit {0}) AttachFault) → IsHost seen h → (seen_host s seen h).store.called ≡ false
       → h.alone ≡ true → OnOk result (IsStorePlaced s seen Begins None schema (record h { memory = new }))
   memory_placed Begins h new schema (Err e) host first alone = tt
@@ -251,29 +251,29 @@ module _ {V : Type 0} (s : Supposed) (seen : V → KeeperSeen) where
       let it = first_in h.waits h.alone h.misnamed h.memory h.file host first in
       (it.unfiled, ap (λ (k : KeeperSeen). k.tells) (sym (seen_then h new alone host first)))
 
-  -- ---- what is left where nothing is attached
+  -- ---- what is left if nothing is attached
 
-  -- nor by a vault that wasn't called
+  -- A vault that wasn't called has no file.
   unopened_first : (h : HostSeen V) → IsHost seen h → (seen_host s seen h).store.called ≡ false → HasNoFile h
   unopened_first h host first = unopened_by seen h host (first_in h.waits h.alone h.misnamed h.memory h.file host first).unfiled
 
-  -- so what opens it is there, where there isn't memory alone
+  -- So what opens the file is there, unless there is memory alone.
   pub waits_first : (h : HostSeen V) → IsHost seen h → (seen_host s seen h).store.called ≡ false → h.alone ≡ false → h.waits ≡ true
   waits_first h host first un = (unopened_first h host first).1 un
 
-  -- nor where the vault doesn't have what it was asked for
+  -- If there is memory alone, no file was opened for a name.
   pub name_left : (Leaves : Option (List ℕ) → V → Type 0) (h : HostSeen V) (name : List ℕ) → IsHost seen h → (seen_host s seen h).store.called ≡ false → h.alone ≡ true → IsStoreLeft Leaves (Some name) (record h { misnamed = true })
   name_left Leaves h name host first alone = inl (alone, refl, (unopened_first h host first).0)
 
   pub unnamed_left : (Leaves : Option (List ℕ) → V → Type 0) (h : HostSeen V) → IsHost seen h → (seen_host s seen h).store.called ≡ false → IsStoreLeft Leaves None (record h { misnamed = true })
   unnamed_left Leaves h host first = unopened_first h host first
 
-  -- nor where memory was asked for
+  -- If memory was requested, no file was opened.
   pub memory_left : (Leaves : Option (List ℕ) → V → Type 0) (h : HostSeen V) (new : KeeperState) (result : Result (Unit {0}) AttachFault) → IsHost seen h → (seen_host s seen h).store.called ≡ false → OnErr result (IsStoreLeft Leaves None (record h { memory = new }))
   memory_left Leaves h new (Ok done) host first = tt
   memory_left Leaves h new (Err e) host first = unopened_first h host first
 
--- ---- a file that tells
+-- ---- a file whose state is known
 
 placed_at : {S : Type 0} (g : Ghosts S) (Gives : Held S → Type 0) (schema : List ℕ) (o : Option Based) → IsSomeAnd o (BeginsGiven g Gives schema) → IsSomeAnd o (λ (b : Based). (b.tells ≡ b.is_open) × (IsTrue b.is_open → b.schema ≡ schema) × (IsTrue b.is_open → IsStanding schema b))
 placed_at g Gives schema None begins = absurd begins

@@ -21,7 +21,7 @@ use Rattle.jac_sqlkeep.specs.Opening.{IsFileGiven}
 use Rattle.jac_reopen.specs.Reopened.{Supposed, waiting_keeper}
 use Rattle.jac_host_vault.specs.Content.{StandFor, HoldsSupposed, IsAsSupposed, IsFound}
 
--- a database that a clean disk gives holds what its bytes stand for
+-- A database that a clean disk gives holds what its bytes represent.
 pub given_holds : {S : Type 0} (g : Ghosts S) (image : Image) (s : Supposed) (h : Held S) → StandFor image s → IsTrue s.known → IsFileGiven image (state g h) × IsNew h → HasCleanDisk (state g h) → HoldsSupposed s (state g h).now
 given_holds g image s h law supposed gave clean =
     let is = gave.0.opened clean in
@@ -32,7 +32,7 @@ given_holds g image s h law supposed gave clean =
 module _ {S : Type 0} (g : Ghosts S) (Gives : Option (List ℕ) → Held S → Type 0) (s : Supposed) (name : Option (List ℕ)) (schema : List ℕ)
     (law : IsTrue s.known → (name : Option (List ℕ)) (h : Held S) → Gives name h → HasCleanDisk (state g h) → HoldsSupposed s (state g h).now) where
   module _ (b : Based) (begins : BeginsGiven g (Gives name) schema b) (supposed : IsTrue s.known) (tells : IsTrue b.tells) where
-    -- what stood there holds what was supposed
+    -- What was stored there holds what was supposed.
     opened : IsTrue b.is_open
     opened = sym begins.begins.tells ∙ tells
 
@@ -72,7 +72,7 @@ module _ {S : Type 0} (g : Ghosts S) (Gives : Option (List ℕ) → Held S → T
   file_found f (Ok done) begins = λ supposed. found_at f.database begins supposed
   file_found f (Err e) begins = tt
 
--- ---- a file is attached of which something was supposed
+-- ---- a file of which something was supposed is attached
 
 module _ (s : Supposed) (schema : List ℕ) where
   as_supposed : (f : Kept) → (o : Option Based) → f.database ≡ o → IsSomeAnd o (λ (b : Based). IsTrue b.tells → IsAsSupposed s schema b.state) → IsTrue (tells_of o) → IsAsSupposed s schema (seen_kept f).state

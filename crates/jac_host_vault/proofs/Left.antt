@@ -16,7 +16,7 @@ use Rattle.jac_host_vault.specs.Left.{IsOnlyFile, IsFileLeft}
 some_injective : {A : Type 0} → (x y : A) → Some x ≡ Some y → x ≡ y
 some_injective x y e = cc
 
--- one schema is known, or none
+-- Either one schema is known or none.
 none_or_some : {A : Type 0} (schema : Option (List ℕ)) (stored : List ℕ) → schema ≡ None → schema ≡ Some stored → A
 none_or_some schema stored none some = absurd (let e : ◌≡◌ {A = Option (List ℕ)} None (Some stored) = sym none ∙ some in cc)
 
@@ -47,7 +47,7 @@ file_left g Gives new (Err (Other found)) left learns stored rose = record {
   stopped = λ none. none_or_some new.store.schema found none learns;
 }
 
--- one that was attached is the only one that was opened
+-- An attached file is the only one that was opened.
 pub only_file : {S : Type 0} (g : Ghosts S) (Gives : Held S → Type 0) (schema : List ℕ) (new : Kept) (result : Result (Unit {0}) AttachFault) → IsLeftAs g Gives (untouched_keeper 0 0) new result → OnOk result (IsFileOf schema new)
     → OnOk result (IsOnlyFile schema new)
 only_file g Gives schema new (Ok done) one is = (one, is)
@@ -55,7 +55,7 @@ only_file g Gives schema new (Err e) one is = tt
 
 -- ---- the vault that holds it
 
--- a file that wasn't attached stands in the vault
+-- A file that wasn't attached is the vault's file.
 pub left_in : {V : Type 0} (Leaves : Option (List ℕ) → V → Type 0) (name : List ℕ) (h : HostSeen V) (f : ReopenSeen V) (result : Result (Unit {0}) AttachFault) → h.file ≡ Some f → f.again ≡ None
     → OnErr result (IsSomeAnd f.first (Leaves (Some name))) → OnErr result (IsStoreLeft Leaves (Some name) h)
 left_in Leaves name h f (Ok done) some first left = tt

@@ -1,4 +1,4 @@
--- The rows of a store that tells stand.
+-- If the state of a store is known, its rows represent it.
 use Rattle.std.proofs.Common.{◌≡◌, refl, sym, Bool, true, false, true≢false, Option, Some, None, IfSome, IsTrue, IsSomeAnd}
 use Rattle.jac_keep.specs.KeeperState.{KeeperState}
 use Rattle.jac_sqlkeep.specs.Based.{Based, IsStanding, TellsStanding}

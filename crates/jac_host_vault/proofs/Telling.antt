@@ -1,4 +1,4 @@
--- A store in a file that tells goes on telling, or a fault was counted.
+-- The known state of a store in a file stays known, or a fault was counted.
 use Rattle.std.proofs.Common.{◌≡◌, ◌⊎◌, inl, inr, refl, ap, ◌∙◌, Bool, true, false, Option, Some, None, IsTrue, IsSomeAnd}
 use Rattle.sqlite_trees.proofs.Doubt.{no_doubt}
 use Rattle.sqlite_trees.specs.declared.store.Store.{Ghosts}

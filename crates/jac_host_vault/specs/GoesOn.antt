@@ -1,4 +1,4 @@
--- that the program's store goes on, over any number of calls
+-- What any number of calls of the program's store preserve.
 use Rattle.std.proofs.Common.{refl, ◌∙◌}
 use Rattle.jac_keep.specs.KeeperSeen.{KeeperSeen}
 use Rattle.jac_keep.specs.Preorder.{Preorder}
@@ -20,7 +20,7 @@ host_joined seen goes a b c one two = record {
   alone = two.alone ∙ one.alone;
 }
 
--- what the program's store keeps over each of its calls, where its files keep this
+-- What each call of the program's store preserves, if each call of its files preserves this.
 abbrev pub host_goes_on : {V : Type 0} → (V → KeeperSeen) → Preorder V → Preorder (HostSeen V)
 host_goes_on seen goes = record {
   holds = HostGoesOn seen goes.holds;

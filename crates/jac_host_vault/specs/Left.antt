@@ -1,4 +1,4 @@
--- what is left of a store's file that wasn't attached
+-- What is left of a store's file that wasn't attached.
 use Rattle.std.specs.Prelude.{◌≡◌, ◌⊎◌, ℕ, List, Some, None, IsSomeAnd}
 use Rattle.sqlite_trees.specs.declared.store.Store.{Ghosts}
 use Rattle.sqlite.specs.Held.{Held}
@@ -7,18 +7,18 @@ use Rattle.jac_sqlkeep.specs.Based.{Based}
 use Rattle.jac_sqlkeep.specs.Kept.{Kept, HasSchema, StoodAs}
 use Rattle.jac_host_vault.specs.Content.{IsFileOf}
 
--- a file that is attached, by the only connection that its opener gave
+-- An attached file, over the only connection that its opener gave.
 abbrev pub IsOnlyFile : List ℕ → Kept → Type 0
 IsOnlyFile schema k = (k.given ≡ 1) × IsFileOf schema k
 
--- one that is refused: the only connection that its opener gave is left as it stood
+-- A refused file: the only connection that its opener gave is left as it was.
 abbrev pub IsOnlyRefused : {S : Type 0} → Ghosts S → (Held S → Type 0) → Kept → Type 0
 IsOnlyRefused g Gives k = (k.given ≡ 1) × IsSomeAnd k.refused (StoodAs g Gives)
 
--- A file that wasn't attached stands as its opener gave it. Where another schema is known, it is
--- the one that is stored there. Where none is known and a fault was counted, either the file was
--- opened and is no store that can be read, or it wasn't opened. Else memory ran out, after the file
--- was opened or before. No file was opened twice.
+-- A file that wasn't attached is left as its opener gave it. If another schema is known, it is the
+-- stored one. If no schema is known and a fault was counted, either the file was opened and isn't a
+-- store that can be read, or it wasn't opened. If no schema is known and no fault was counted,
+-- memory ran out, after the file was opened or before. No file was opened twice.
 pub record IsFileLeft {S : Type 0} (g : Ghosts S) (Gives : Held S → Type 0) (k : Kept) : Type 0
   where
     pub other : (stored : List ℕ) → k.store.schema ≡ Some stored → (k.given ≡ 1)

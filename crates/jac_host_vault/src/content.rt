@@ -1,4 +1,4 @@
-//! What opens a store's file, and what is supposed of that file, for clauses alone.
+//! What opens a store's file, and what is supposed of that file, for contracts alone.
 ghost use Rattle.std.specs.Prelude.{◌≡◌, [], None, false, true, ℕ, List, Option, IsTrue};
 ghost use Rattle.sqlite.specs.Held.{Held, state};
 ghost use Rattle.sqlite.specs.State.{HasCleanDisk};
@@ -11,17 +11,17 @@ use jac_value::Txt;
 use sqlite::{File, FileFrom, FileStore, Start};
 use std::fs::remove_file;
 
-/// The bytes that a store's log and file hold as they are opened, and the store that they stand
-/// for. No code can read either, so a function over `C: FileContent` is proved for all files that
-/// hold a store, or nothing.
+/// The bytes that a store's log and file hold when they are opened, and the store that they
+/// represent. No code can read either, so a function over `C: FileContent` is proved for all files
+/// that hold a store or nothing.
 pub trait FileContent: Start {
-    /// Whether anything is supposed, and the store: its schema, or none where nothing is stored,
-    /// and its state. Nothing stored is the state with the number 1.
+    /// Whether anything is supposed, and the store: its schema, or none if nothing is stored, and
+    /// its state. If nothing is stored, the state is the one with the number 1.
     ghost holds: { Supposed };
 
     fn new() -> Self;
 
-    /// A law: the bytes stand for the store.
+    /// A law: the bytes represent the store.
     fn stand()
         ensures { StandFor (image_at Self.Start) holds };
 }
@@ -31,21 +31,21 @@ pub trait FileOpens: Opener + Drop {
     /// What is supposed of the store in the file.
     ghost holds: { Supposed };
 
-    /// One that makes the file if it isn't there, or one that doesn't open it then.
+    /// An opener that makes the file if it doesn't exist, or one that fails then.
     fn new(rt: HostRuntime, makes: bool) -> Self
         ensures faults { Self.Opener.faults result ≡ 0 }
         ensures gave { Self.Opener.gave result ≡ 0 };
 
-    /// A law: where something is supposed, a database that is given by a clean disk holds it.
+    /// A law: if something is supposed, a database that a clean disk gives holds it.
     fn stand()
         ensures { IsTrue holds.known → (name : Option (List ℕ)) (given : Held Self.Store)
             → Self.Opener.gives name given → HasCleanDisk (state Self.Store.Store given)
             → HoldsSupposed holds (state Self.Store.Store given).now };
 
-    /// Why it wasn't opened.
+    /// Why the file wasn't opened.
     fn fault(&self) -> Option<OpenFault>;
 
-    /// Closes the file. Where it was refused, a log that the opening made is removed with it.
+    /// Closes the file. If it was refused, a log that the opening made is removed.
     fn close(&self, rt: &HostRuntime, store: Self::Store, refused: bool);
 }
 
@@ -65,14 +65,14 @@ impl<C: FileContent> FileOpens for FileOpener<C> {
     }
 
     /// What can't be copied from the log into the file stays in the log beside it, where the next
-    /// opening finds it. A log that a refused opening made is copied whole and then removed, while
-    /// the files are still locked: so no other program has it.
+    /// opening finds it. A log that a refused opening made is copied whole and then removed while
+    /// the files are still locked, so no other program has it.
     fn close(&self, rt: &HostRuntime, store: FileStore<FileFrom<C>>, refused: bool) {
         close_store(rt, store, if refused { self.new_log() } else { None });
     }
 }
 
-/// For `main` to name: nothing is supposed of the file.
+/// The opener that `main` names. Nothing is supposed of the file.
 impl FileOpens for HostOpener {
     ghost holds = { record {
       known = false;
@@ -95,7 +95,8 @@ impl FileOpens for HostOpener {
     }
 }
 
-// Copies the log into the file and closes both, and removes the log of this name meanwhile.
+// Copies the log into the file, closes both, and removes the log of this name while both are still
+// locked.
 fn close_store<S: Start>(rt: &HostRuntime, store: FileStore<FileFrom<S>>, log: Option<&Txt>) {
     let mut store = store;
     if store.checkpoint().is_ok() {

@@ -16,8 +16,8 @@ use jac_value::{Id, Txt, Value};
 use std::alloc::Global;
 use std::marker::Model;
 
-/// A keeper in a file. It tells its state from when it is attached, as long as its connection is
-/// open: what the file holds was then read and tested. As it is dropped, the file is closed.
+/// A keeper in a file. Its state is known after it is attached, as long as its connection is open,
+/// because what the file held was read and tested. When the keeper is dropped, the file is closed.
 pub struct FileKeeper<O: FileOpens> {
     rt: HostRuntime,
     keeper: SqlKeeper<O>,
@@ -31,7 +31,7 @@ impl<O: FileOpens> Model for FileKeeper<O> {
     ghost view = { λ k. k.keeper };
 }
 
-// It is written out, so that a caller does not prove again how each part is dropped.
+// Written out, so that a caller doesn't prove again how each part is dropped.
 impl<O: FileOpens> Drop for FileKeeper<O> {
     fn drop(self) {
         let FileKeeper { rt, keeper } = self;
@@ -46,8 +46,7 @@ impl<O: FileOpens> Drop for FileKeeper<O> {
 impl<O: FileOpens> FileKeeper<O> {
     ghost use Rattle.jac_sqlkeep.specs.Kept.{untouched_keeper};
 
-    /// A keeper that wasn't attached yet. Where it makes no files it opens those alone that are
-    /// there.
+    /// A keeper that isn't attached yet. If it makes no files, it opens only files that exist.
     pub fn new(rt: HostRuntime, makes: bool) -> FileKeeper<O>
         ensures { result ≡ untouched_keeper 0 0 }
     {
@@ -57,14 +56,14 @@ impl<O: FileOpens> FileKeeper<O> {
         }
     }
 
-    /// How often it failed.
+    /// How often the keeper failed.
     pub fn faults(&self) -> u64
         ensures { result ≡ self.now.faults }
     {
         self.keeper.faults()
     }
 
-    /// From now on contracts say nothing of its contents.
+    /// Makes the state unknown from then on.
     pub fn doubt(&mut self)
         ensures untold { (seen_kept self.new).tells ≡ false }
         ensures same_store { self.new.store ≡ self.old.store }
@@ -73,14 +72,14 @@ impl<O: FileOpens> FileKeeper<O> {
         self.keeper.doubt();
     }
 
-    /// A law: as long as it tells, the rows of its file are well formed and committed.
+    /// A law: as long as its state is known, the rows of its file are well formed and committed.
     pub fn rows_stand(&self)
         ensures { HasStandingRows self.now }
     {
         self.keeper.rows_stand();
     }
 
-    /// Says on standard error why the file of this name wasn't attached.
+    /// Prints to standard error why the file of this name wasn't attached.
     pub(crate) fn tell_refusal(&self, name: &Txt) {
         tell_refusal(
             &self.rt,
@@ -132,8 +131,8 @@ impl<O: FileOpens> Keeper for FileKeeper<O> {
 }
 
 impl<O: FileOpens> Vault for FileKeeper<O> {
-    /// What is attached is what was supposed of the file, as long as it tells. What isn't stands as
-    /// it was opened.
+    /// What is attached is what was supposed of the file, as long as its state is known. A file
+    /// that isn't attached is left as it was opened.
     #[tactic(auto, using(crate::proofs::Attached::file_placed, crate::proofs::Found::file_found))]
     fn attach(&mut self, alloc: Global, name: Option<&Txt>, schema: &Txt) -> Result<(), AttachFault>
         requires first { self.old.store.called ≡ false }

@@ -1,5 +1,5 @@
-//! The program's stores: in memory, or in a database file. They stand in a crate of their own, so
-//! that whoever uses them doesn't prove again how a connection to a file is dropped.
+//! The program's store: in memory, or in a file whose tables are cached. It has a crate of its own,
+//! so that its users don't prove again how a connection to a file is dropped.
 #![tactic(auto)]
 
 mod content;

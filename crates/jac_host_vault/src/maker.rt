@@ -9,7 +9,7 @@ use jac_value::Txt;
 use std::alloc::Global;
 use std::marker::PhantomData;
 
-/// Opens files, with their tables held in memory once they were read.
+/// Opens files. Their tables are held in memory after they are read.
 #[derive(Drop)]
 pub struct FileMaker<O: FileOpens> {
     rt: HostRuntime,
@@ -19,7 +19,7 @@ pub struct FileMaker<O: FileOpens> {
 }
 
 impl<O: FileOpens> FileMaker<O> {
-    /// One that makes the files that aren't there, or refuses them.
+    /// A maker that makes the files that don't exist, or one that refuses them.
     pub fn new(rt: HostRuntime, makes: bool) -> FileMaker<O> {
         FileMaker {
             rt,

@@ -1,13 +1,13 @@
-//! Why a file isn't attached, on standard error. Where standard error takes nothing the run goes on
-//! without.
+//! Messages on standard error that say why a file isn't attached. If standard error takes nothing,
+//! the program continues without them.
 
 use jac_sqlkeep::{OpenFault, Unfit};
 use jac_value::Txt;
 use sqlite::{Error, ErrorCode};
 use std::time::{Duration, Instant};
 
-/// Writes on standard error why the file of this name wasn't attached, unless another place reports
-/// it, as it does another schema.
+/// Prints to standard error why the file of this name wasn't attached, unless the reason is
+/// reported elsewhere, as another schema is.
 pub(crate) fn tell_refusal(
     rt: &HostRuntime,
     name: &Txt,
@@ -49,7 +49,7 @@ fn words_of_fault(fault: OpenFault) -> &'static str {
     }
 }
 
-/// Why a call over a store failed that was attached.
+/// Why a call over an attached store failed.
 pub(crate) fn words_of_error(error: Error) -> &'static str {
     match error {
         Error::SqliteFailure(ErrorCode::DiskFull) => "the disk takes no more",
@@ -61,7 +61,7 @@ pub(crate) fn words_of_error(error: Error) -> &'static str {
     }
 }
 
-/// Tells faults of a store on standard error, at most one a second.
+/// Reports faults of a store on standard error, at most one per second.
 #[derive(Drop)]
 pub(crate) struct FaultLog {
     rt: HostRuntime,
@@ -78,7 +78,7 @@ impl FaultLog {
         }
     }
 
-    /// Tells of a fault of the store of this name, or counts it for the next line.
+    /// Reports a fault of the store of this name, or counts it for the next line.
     pub(crate) fn tell(&mut self, name: &str, what: &str) {
         if self.is_early() {
             self.untold = self.untold.saturating_add(1);
@@ -93,7 +93,7 @@ impl FaultLog {
         self.untold = 0;
     }
 
-    // Whether a second isn't over since the last line; where there is no clock it always is.
+    // Whether less than a second has passed since the last line. Without a clock it is false.
     fn is_early(&mut self) -> bool {
         let Ok(now) = Instant::now(&self.rt) else {
             return false;

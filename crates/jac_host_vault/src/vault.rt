@@ -14,9 +14,9 @@ use jac_value::{Id, Txt, Value};
 use std::alloc::Global;
 use std::marker::Model;
 
-/// Where the program keeps its state: in memory, or in a file, by a maker of such vaults. The
-/// tables of a file that were read are held in memory until they are changed. A file that a fault
-/// of the disk closed is opened again by the next call, and tells nothing from then on.
+/// The program's store: in memory, or in a file that the maker opens. Tables that were read from a
+/// file are held in memory, and each change is made there too. If a fault of the disk closed the
+/// file, the next call opens it again, and the state isn't known from then on.
 #[derive(Drop)]
 pub struct HostVault<M: VaultMaker> {
     maker: Option<M>,
@@ -50,9 +50,9 @@ impl<M: VaultMaker> Model for HostVault<M> {
 }
 
 impl<M: VaultMaker> HostVault<M> {
-    /// A vault that wasn't attached yet, whose file this maker opens. Before it is attached it
-    /// tells what the maker supposes of the file. It refuses to attach without a name. The state is
-    /// that of its memory, which isn't used.
+    /// A vault that isn't attached yet and whose file this maker opens. Before it is attached, its
+    /// state is what the maker supposes of the file. It refuses to attach without a name. `state`
+    /// is the state of its memory, which isn't used.
     pub fn in_file(alloc: Global, state: State, maker: M) -> HostVault<M>
         requires { IsStored None state }
         ensures { result ≡ record {
@@ -80,8 +80,8 @@ impl<M: VaultMaker> HostVault<M> {
         }
     }
 
-    /// A vault that has memory alone, and this state, which it tells from now on. It refuses each
-    /// name.
+    /// A vault with memory alone. From now on its state is known, and it is `state`. It refuses
+    /// each name.
     pub fn in_memory(alloc: Global, state: State) -> HostVault<M>
         requires { IsStored None state }
         ensures { result ≡ record {
@@ -109,7 +109,7 @@ impl<M: VaultMaker> HostVault<M> {
         }
     }
 
-    /// A law: where its file isn't attached, that is left as its maker says, or wasn't asked for.
+    /// A law: a file that isn't attached is left as its maker says, or no file was requested.
     #[tactic(auto, using(crate::proofs::Attached::unopened_by))]
     pub fn stand(&self)
         ensures { LeavesFile M.Vault.Keeper.seen M.leaves self.now }
@@ -119,7 +119,7 @@ impl<M: VaultMaker> HostVault<M> {
         }
     }
 
-    /// A law: the rows of its file stand as its maker says.
+    /// A law: the rows of its file are as its maker says.
     pub fn rows_stand(&self)
         ensures { KeepsRows M.stands self.now }
     {
@@ -183,7 +183,7 @@ impl<M: VaultMaker> Keeper for HostVault<M> {
         }
     }
 
-    /// Memory lends rows where there is memory alone.
+    /// Memory lends rows only if there is memory alone.
     fn held(&self, id: Id, near: Place) -> Option<&[Row]> {
         match &self.file {
             Some(file) => file.held(id, near),
@@ -220,8 +220,8 @@ impl<M: VaultMaker> Keeper for HostVault<M> {
 impl<M: VaultMaker> Vault for HostVault<M> {
     ghost use Rattle.jac_host_vault.specs.HostSeen.{seen_host};
 
-    /// The store of a name is a file; without one it is in memory. Where it has the other one
-    /// alone, it fails.
+    /// A store with a name is a file, and a store without a name is in memory. If the vault has
+    /// only the other kind, it fails.
     #[tactic(auto, using(crate::proofs::Attached::memory_first, crate::proofs::Attached::file_attached, crate::proofs::Attached::memory_attached, crate::proofs::Attached::host_of_memory, crate::proofs::Attached::name_refused, crate::proofs::Attached::placed_in, crate::proofs::Attached::memory_placed, crate::proofs::Attached::waits_first, crate::proofs::Attached::name_left, crate::proofs::Attached::unnamed_left, crate::proofs::Attached::memory_left, crate::proofs::Left::left_in))]
     fn attach(&mut self, alloc: Global, name: Option<&Txt>, schema: &Txt) -> Result<(), AttachFault>
         requires first { (seen_host M.supposes M.Vault.Keeper.seen self.old).store.called ≡ false }
