@@ -5,14 +5,14 @@ use Rattle.std.proofs.lemmas.List.{take_more, drop_more}
 use Rattle.std.proofs.lemmas.List.Folds.{list_any_more, list_any_kept}
 use Rattle.jac_http.specs.Heads.{is_written, ends_blank, head_from, head_in}
 
--- one byte further
+-- One more byte of the search.
 pub head_step : (xs : List ℕ) (i : ℕ) → i < length xs
     → head_from (take i xs) (drop i xs) ≡ (if ends_blank (take (i + 1) xs) then Some (take (i + 1) xs) else head_from (take (i + 1) xs) (drop (i + 1) xs))
 head_step xs i l =
     ap (head_from (take i xs)) (drop_more xs i 0 l)
     ∙ ap (λ (front : List ℕ). if ends_blank front then Some front else head_from front (drop (i + 1) xs)) (sym (take_more xs i 0 l))
 
--- whether the first bytes end a blank line, of which it is known that they are not only CR and LF
+-- Whether bytes that aren't only CR and LF end with a blank line.
 abbrev pub is_end : List ℕ → Bool
 is_end front = ends_with ◌==◌ front (codes "\n\n") || ends_with ◌==◌ front (codes "\n\r\n")
 
@@ -28,12 +28,12 @@ unfound_at xs i l so_far none =
     let step : head_from (take i xs) (drop i xs) ≡ head_from (take (i + 1) xs) (drop (i + 1) xs) = rw none at (head_step xs i l) in
     sym step ∙ so_far
 
--- a byte was written before
+-- The flag stays true if an earlier byte is neither CR nor LF.
 pub written_kept : (xs : List ℕ) (i : ℕ) (before now : Bool) → before ≡ list_any is_written (take i xs) → before ≡ true → now ≡ before
     → now ≡ list_any is_written (take (i + 1) xs)
 written_kept xs i before now so_far known same = same ∙ known ∙ sym (list_any_kept is_written xs i (sym so_far ∙ known))
 
--- none was written before, so it is the byte here that counts
+-- If there is no such byte before, the byte here decides.
 pub written_here : (xs : List ℕ) (i : ℕ) (before now : Bool) → i < length xs → before ≡ list_any is_written (take i xs) → before ≡ false
     → now ≡ is_written (get_or xs i 0) → now ≡ list_any is_written (take (i + 1) xs)
 written_here xs i before now l so_far known here =

@@ -1,4 +1,4 @@
--- Bytes are read as one thing, which stays.
+-- Bytes have one answer. Unless it is `More`, bytes that follow don't change it.
 use Rattle.std.proofs.Common.{◌≡◌, ◌≢◌, ◌∙◌, ap, sym, subst, refl, inl, inr, ℕ, zero, suc, ◌+◌, ◌-◌, ◌≤◌, nat_lt, if◌then◌else◌, Bool, true, false, Option, Some, None, List, [], ◌∷◌, ◌++◌, length, take, drop, length-append, arith}
 use Rattle.std.proofs.lemmas.Bool.Decides.{nat_tests}
 use Rattle.std.proofs.lemmas.List.{length-drop, length-take, take-append-le, drop-append-le}
@@ -11,7 +11,7 @@ use Rattle.jac_http.specs.Heads.{HeadParts, parts_of, ends_blank, head_from, hea
 use Rattle.jac_http.specs.Requests.{IsHead, IsTaken, IsTakenAt, IsAnswered, without_head, answer_to, answer_by, refusal_status, body_length, request_of}
 use Rattle.jac_http.specs.Reading.{IsReading, AreRead}
 
--- ---- answers apart
+-- ---- answers differ
 
 whole_no_more : (request : Request) (used : ℕ) → Whole request used ≢ More
 whole_no_more request used e = cc
@@ -39,7 +39,7 @@ found_in : (b : Bool) (front here : List ℕ) (on longer : Option (List ℕ)) �
 found_in true front here on longer step e = e
 found_in false front here on longer step e = step e
 
--- what follows doesn't change where the head ends
+-- What follows doesn't change where the head ends.
 head_stays : (before xs ys front : List ℕ) → head_from before xs ≡ Some front → head_from before (xs ++ ys) ≡ Some front
 head_stays before [] ys front e = cc
 head_stays before (b ∷ xs) ys front e =
@@ -94,7 +94,7 @@ one_at : (o : Option (List ℕ)) (bytes : List ℕ) (answer other : Taken) → I
 one_at None bytes answer other e e' = e ∙ sym e'
 one_at (Some front) bytes answer other a b = one_answer front (drop (length front) bytes) answer other a b
 
--- ---- it stays
+-- ---- bytes that follow don't change an answer
 
 long_by : (b : Bool) (bytes : List ℕ) → nat_lt (length bytes) 8192 ≡ b → without_head (length bytes) ≢ More → 8192 ≤ length bytes
 long_by true bytes e other = absurd (other (rw e refl))
@@ -103,7 +103,7 @@ long_by false bytes e other = grind (arith, nat_tests, e)
 full : (n : ℕ) → 8192 ≤ n → without_head n ≡ Refused 431
 full n long = let past : nat_lt n 8192 ≡ false = grind (arith, nat_tests, long) in rw past refl
 
--- a body that is there stays
+-- If the whole body is there, bytes that follow don't change the answer.
 body_stays : (b : Bool) (n used : ℕ) (made : List ℕ → Request) (rest following : List ℕ) → nat_lt (length rest) n ≡ b
     → (if nat_lt (length rest) n then More else Whole (made (take n rest)) (used + n)) ≢ More
     → (if nat_lt (length (rest ++ following)) n then More else Whole (made (take n (rest ++ following))) (used + n))
@@ -141,7 +141,7 @@ stays_at (Some front) bytes following answer is other answered =
     subst (λ (o : Option (List ℕ)). IsTakenAt o (bytes ++ following) answer) (sym (front_stays bytes following front is))
     (subst (λ (rest : List ℕ). IsAnswered front rest answer) (sym behind) (answered_stays front (drop (length front) bytes) following answer other answered))
 
--- ---- a request stands within its bytes
+-- ---- a request takes no more bytes than there are
 
 used_by : (b : Bool) (m n : ℕ) (rest : List ℕ) (made request : Request) (used : ℕ) → nat_lt (length rest) m ≡ b
     → Whole request used ≡ (if b then More else Whole made (n + m)) → used ≤ n + length rest
@@ -172,7 +172,7 @@ reading = record {
   within = λ bytes request used a. within_at (head_in (take 8192 bytes)) bytes request used refl a;
 }
 
--- ---- no bytes are without an answer
+-- ---- all bytes have an answer
 
 some_answer : (front rest : List ℕ) → ((answer : Taken) → IsAnswered front rest answer → ⊥) → ⊥
 some_answer front rest none =
@@ -192,7 +192,7 @@ some_length : (xs : List ℕ) → xs ≢ [] → 1 ≤ length xs
 some_length [] some = absurd (some refl)
 some_length (x ∷ xs) some = omega arith
 
--- what was read of the beginning is read of it all
+-- If the answer to a beginning of the bytes isn't `More`, it is the answer to all of them.
 read_both : (bytes following : List ℕ) (request : Request) (used : ℕ) (answer : Taken) → answer ≢ More → IsTaken (bytes ++ following) (Whole request used)
     → IsTaken bytes answer → answer ≡ Whole request used
 read_both bytes following request used answer other whole is =

@@ -1,4 +1,4 @@
--- How many headers a head has room for.
+-- How many headers a head can have.
 use Rattle.std.proofs.Common.{ap, ℕ, suc, ◌*◌, ◌≤◌, List, [], ◌∷◌, ◌++◌, length, length-append, arith}
 use Rattle.std.specs.List.{flat_map}
 use Rattle.httparse.specs.Grammar.{LineEnd, crlf, lf, print_end, Field, print_field, RequestHead, print_request}

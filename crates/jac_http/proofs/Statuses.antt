@@ -6,7 +6,7 @@ use Rattle.std.proofs.lemmas.Fmt.{decimal_step, decimal_digit}
 use Rattle.http.specs.StatusCode.{IsStatusCode, code_digits}
 use Rattle.jac_http.specs.Replies.{statuses, phrase_in, phrase_of}
 
--- what holds of each status that has a phrase holds of one that has
+-- What holds for the status of each row holds for every status that has a phrase.
 of_all : (P : ℕ → Type 0) (rows : List (ℕ × List ℕ)) (status : ℕ) → AllByRecursion (λ row. P row.0) rows → IsSome (phrase_in rows status) → P status
 of_all P [] status all has = absurd (true≢false (sym has))
 of_all P (row ∷ rows) status all has = by (λ some. of_all P rows status all.1 some) (status == row.0) refl has

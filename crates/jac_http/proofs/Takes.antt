@@ -1,4 +1,4 @@
--- An answer by where the head ends.
+-- The answer to bytes, by where their head ends.
 use Rattle.std.proofs.Common.{◌≡◌, subst, sym, ℕ, ◌≤◌, Option, Some, None, List, length, take, drop}
 use Rattle.std.proofs.lemmas.List.{take_all}
 use Rattle.jac_http.specs.declared.taken.Taken.{Taken}

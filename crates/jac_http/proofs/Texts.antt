@@ -25,7 +25,7 @@ pub token_utf8 : (bytes : List ℕ) → IsToken bytes → IsUtf8 bytes
 token_utf8 bytes token =
     IsUtf8-from_ascii bytes (λ i. below_or_past bytes i _ refl (λ k l. token_byte (get_or bytes k 0) (token.1 k 0 l)))
 
--- a text may be cut before its first byte that passes, where only ASCII bytes do
+-- If only ASCII bytes pass, a text may be cut before its first byte that passes.
 boundary_by : (p : ℕ → Bool) (xs : List ℕ) (t : Bool) → nat_lt (position_or_len p xs) (length xs) ≡ t → ((b : ℕ) → p b ≡ true → b < 128)
     → IsCharBoundary xs (position_or_len p xs)
 boundary_by p xs true e ascii =
@@ -69,7 +69,7 @@ path_utf8 t text =
     root_utf8 (before_first (λ b. b == 63) (behind_authority t))
     (IsUtf8-take (behind_authority t) (position_or_len (λ b. b == 63) (behind_authority t)) behind (boundary_at (λ b. b == 63) (behind_authority t) mark_ascii))
 
--- text is read as text
+-- If the bytes are UTF-8, the result is `Ok`.
 pub readable : {T E : Type 0} (P : T → Type 0) (Q : E → Type 0) (r : Result T E) (bytes : List ℕ) → MatchResult r P (λ e. (¬ (IsUtf8 bytes)) × Q e) → IsUtf8 bytes → IsOk r
 readable P Q (Ok x) bytes cases text = refl
 readable P Q (Err e) bytes cases text = absurd (cases.0 text)

@@ -4,26 +4,26 @@ use Rattle.std.specs.List.{list_any, ends_with}
 use Rattle.httparse.specs.Grammar.{RequestHead}
 use Rattle.httparse.specs.Spans.{name_and_value}
 
--- neither CR nor LF
+-- Neither CR nor LF.
 abbrev pub is_written : ℕ → Bool
 is_written b = not (b == 13 || b == 10)
 
--- LF stands after LF, or after CR after LF, and something is written before
+-- The bytes end with LF LF or LF CR LF, and one of them is neither CR nor LF.
 abbrev pub ends_blank : List ℕ → Bool
 ends_blank front = list_any is_written front && (ends_with ◌==◌ front (codes "\n\n") || ends_with
     ◌==◌ front (codes "\n\r\n"))
 
--- the first part of front ++ rest, longer than front, that ends in a blank line
+-- The shortest prefix of `front ++ rest` that is longer than `front` and ends with a blank line.
 abbrev pub head_from : List ℕ → List ℕ → Option (List ℕ)
 head_from front [] = None
 head_from front (b ∷ rest) = if ends_blank (front ++ b ∷ []) then Some (front ++ b ∷ [])
     else head_from (front ++ b ∷ []) rest
 
--- the bytes up to their first blank line, with it
+-- The bytes up to and including their first blank line.
 abbrev pub head_in : List ℕ → Option (List ℕ)
 head_in bytes = head_from [] bytes
 
--- what is read of a head; headers are pairs of a name and a value
+-- What is read from a head. Headers are pairs of a name and a value.
 pub record HeadParts : Type 0 where
   pub method : List ℕ
   pub target : List ℕ

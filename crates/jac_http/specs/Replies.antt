@@ -3,7 +3,7 @@ use Rattle.std.specs.Prelude.{ℕ, Bool, if◌then◌else◌, ◌==◌, Option, 
 use Rattle.jac_http.specs.declared.reply.Fixed.{Fixed}
 use Rattle.jac_http.specs.declared.reply.Fixed.TheVariants.{Memory500, Keeper503}
 
--- the statuses that a reply may have, with their phrases
+-- The statuses that a reply may have, with their phrases.
 abbrev pub statuses : List (ℕ × List ℕ)
 statuses =
     (200, codes "OK") ∷ (303, codes "See Other") ∷ (400, codes "Bad Request")
@@ -21,7 +21,7 @@ phrase_in (row ∷ rows) status = if status == row.0 then Some row.1 else phrase
 unfoldable pub phrase_of : ℕ → Option (List ℕ)
 phrase_of status = phrase_in statuses status
 
--- `STATUS PHRASE`
+-- `STATUS PHRASE`.
 abbrev pub status_text : ℕ → List ℕ
 status_text status = decimal status ++ codes " " ++ unwrap_or (phrase_of status) []
 
@@ -36,7 +36,7 @@ abbrev pub media_type : Bool → List ℕ
 media_type page = if page then codes "text/html; charset=utf-8"
     else codes "text/plain; charset=utf-8"
 
--- without a page the status is the body
+-- Without a page, the body is the status, its phrase and LF.
 abbrev pub reply_body : ℕ → List ℕ → Bool → List ℕ
 reply_body status body page = if page then body else status_text status ++ codes "\n"
 
@@ -47,7 +47,7 @@ unfoldable pub content_lines : Bool → ℕ → List ℕ
 content_lines page length = field_line (codes "Content-Type") (media_type page) ++ field_line
     (codes "Content-Length") (decimal length)
 
--- what doesn't apply has no line
+-- A header that doesn't apply has no line.
 unfoldable pub further_lines : Option (List ℕ) → Option (List ℕ) → Bool → List ℕ
 further_lines location allow close =
     field_line_if (codes "Location") location ++ field_line_if (codes "Allow") allow

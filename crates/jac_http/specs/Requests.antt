@@ -15,25 +15,25 @@ stated_length_of head = stated_length (values_of (codes "content-length") head.h
 abbrev pub body_length : HeadParts → ℕ
 body_length head = unwrap_or (stated_length_of head) 0
 
--- version 1.1 wants exactly one Host
+-- Version 1.1 requires exactly one Host header.
 abbrev pub lacks_host : HeadParts → Bool
 lacks_host head = head.minor == 1 && not (length (values_of (codes "host") head.headers) == 1)
 
 abbrev pub has_coding : HeadParts → Bool
 has_coding head = nat_lt 0 (length (values_of (codes "transfer-encoding") head.headers))
 
--- a body that is posted is a form
+-- A POST with a body, and with a first Content-Type that isn't that of a form.
 abbrev pub posts_no_form : HeadParts → Bool
 posts_no_form head =
     bytes_eq head.method (codes "POST") && nat_lt 0 (body_length head) && has_no_form
     (values_of (codes "content-type") head.headers)
 
--- the status of the first row whose test holds
+-- The status of the first row whose test holds.
 abbrev pub first_status : List (Bool × ℕ) → Option ℕ
 first_status [] = None
 first_status (row ∷ rows) = if row.0 then Some row.1 else first_status rows
 
--- with what a head is refused
+-- The status with which a head is refused, if it is.
 abbrev pub refusal_status : HeadParts → Option ℕ
 refusal_status head = first_status (
     (nat_lt 64 (length head.headers), 431)
@@ -58,7 +58,7 @@ request_of head body = record {
   close = closes head;
 }
 
--- where the head isn't refused, its body stands in `rest`, or more of it is to come
+-- If the head isn't refused: its request if `rest` has the whole body, and `More` otherwise.
 abbrev pub with_body : HeadParts → ℕ → List ℕ → Taken
 with_body head used rest =
     if nat_lt (length rest) (body_length head) then More
@@ -68,15 +68,16 @@ abbrev pub answer_by : Option ℕ → HeadParts → ℕ → List ℕ → Taken
 answer_by (Some status) head used rest = Refused status
 answer_by None head used rest = with_body head used rest
 
--- the answer to a head of so many bytes, and what follows it
+-- The answer to a head of `used` bytes, followed by `rest`.
 abbrev pub answer_to : HeadParts → ℕ → List ℕ → Taken
 answer_to head used rest = answer_by (refusal_status head) head used rest
 
--- the bytes are a head of the grammar, and nothing else
+-- The bytes are a head of the grammar, and nothing else.
 abbrev pub IsHead : List ℕ → RequestHead → Type 0
 IsHead bytes head = ReadsRequest bytes head []
 
--- the answer where the head ends: these are its bytes, and those that follow it
+-- The answer if the end of the head is found: `front` are the bytes up to there, and `rest` those
+-- after them.
 abbrev pub IsAnswered : List ℕ → List ℕ → Taken → Type 0
 IsAnswered front rest answer =
     ((head : RequestHead) × IsHead front head
@@ -90,6 +91,6 @@ abbrev pub IsTakenAt : Option (List ℕ) → List ℕ → Taken → Type 0
 IsTakenAt None bytes answer = answer ≡ without_head (length bytes)
 IsTakenAt (Some front) bytes answer = IsAnswered front (drop (length front) bytes) answer
 
--- the answer to these bytes: only their first 8,192 are looked through for the head's end
+-- The answer to these bytes. The end of the head is searched for in their first 8,192 only.
 abbrev pub IsTaken : List ℕ → Taken → Type 0
 IsTaken bytes answer = IsTakenAt (head_in (take 8192 bytes)) bytes answer

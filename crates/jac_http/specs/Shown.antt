@@ -1,4 +1,4 @@
--- What a head shows, whose headers are places in its bytes.
+-- The parts of a head as plain data. Its headers are read from their places in its bytes.
 use Rattle.std.specs.Prelude.{map}
 use Rattle.httparse.specs.Spans.{header_bytes}
 use Rattle.jac_http.specs.declared.head.Head.{Head}

@@ -3,7 +3,7 @@ ghost use Rattle.std.specs.List.{ends_with};
 ghost use Rattle.std.specs.Option.{option_copied};
 ghost use Rattle.jac_http.specs.Heads.{is_written, head_in};
 
-/// The bytes up to their first blank line, with it.
+/// The bytes up to and including their first blank line.
 pub(crate) fn head_in(bytes: &[u8]) -> Option<&[u8]>
     ensures head { option_copied result ≡ head_in bytes.now }
     ensures within { IfSome result (λ head. length head.now ≤ length bytes.now) }

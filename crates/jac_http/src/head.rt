@@ -3,7 +3,7 @@ ghost use Rattle.httparse.specs.Spans.{IsHeaderWithin};
 
 use httparse::spans::HeaderSpan;
 
-/// The head of a request. Its headers are places in its bytes.
+/// The head of a request. Its headers are spans of its bytes.
 #[derive(Drop)]
 pub(crate) struct Head<'b> {
     pub bytes: &'b [u8],

@@ -13,7 +13,7 @@ use httparse::spans::{EMPTY_HEADER_SPAN, HeaderSpan, RequestSpans, parse_request
 use std::alloc::{AllocError, Global};
 use std::str::from_utf8;
 
-/// The head that the bytes are. There is room for all headers, since each takes two bytes and more.
+/// Reads the bytes as a head. There is room for all headers, because each takes at least two bytes.
 pub(crate) fn read_head(alloc: Global, bytes: &[u8]) -> Result<Option<Head<'_>>, AllocError>
     ensures some { IfOk result (λ o. IfSome o (λ h. (k : RequestHead) × IsHead bytes.now k
         × (parts_shown h ≡ parts_of k))) }
@@ -65,7 +65,7 @@ fn head_at<'b>(bytes: &'b [u8], spans: &RequestSpans, headers: Vec<HeaderSpan>) 
     }
 }
 
-/// The values of the headers of this name, in their order.
+/// The values of the headers with this name, in order.
 pub(crate) fn values_of<'b>(
     alloc: Global,
     head: &Head<'b>,

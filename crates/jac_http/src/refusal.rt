@@ -12,7 +12,7 @@ use crate::values::{has_no_form, stated_length};
 use jac_value::Memory;
 use std::alloc::Global;
 
-/// With what a head is refused, where it is.
+/// The status with which a head is refused, if it is.
 pub(crate) fn refusal(alloc: Global, head: &Head) -> Result<Option<u16>, Memory>
     ensures { IfOk result (λ r. r ≡ refusal_status (parts_shown head.now)) }
 {
@@ -51,7 +51,7 @@ fn has_coding(alloc: Global, head: &Head) -> Result<bool, Memory>
     Ok(codings.len() > 0)
 }
 
-/// The length that the head states, or 65,537 where it is more.
+/// The length that the head states, or 65,537 if that is more.
 pub(crate) fn stated_length_of(alloc: Global, head: &Head) -> Result<Option<usize>, Memory>
     ensures { IfOk result (λ r. r ≡ option_map (min 65537)
         (stated_length_of (parts_shown head.now))) }

@@ -7,23 +7,23 @@ use itoa::Buffer;
 use jac_value::{Bytes, Memory, Txt};
 use std::alloc::Global;
 
-// Bytes for which a reply has room beside its body. One that has more grows.
+// The room that a reply reserves beside its body, in bytes. A longer reply grows.
 const HEAD_ROOM: usize = 160;
 
-// Bytes for which the body of a reply without a page has room.
+// The room for the body of a reply without a page, in bytes.
 const FIXED_ROOM: usize = 40;
 
-/// A reply that stands ready, so that it takes no memory.
+/// A constant reply. It needs no allocation.
 #[derive(Clone, Copy, PartialEq, Eq)]
 pub enum Fixed {
-    /// A growth was refused.
+    /// An allocation failed.
     Memory500,
     /// The keeper had a fault.
     Keeper503,
 }
 
-/// The bytes of a reply. Without a page the body is the status and its phrase, whatever `body` is.
-/// The reply to a request of the method HEAD has no body, and its length all the same.
+/// The bytes of a reply. Without a page, the body is the status and its phrase, whatever `body` is.
+/// The reply to a HEAD request has no body, but states its length.
 pub fn write_reply(
     alloc: Global,
     status: u16,
@@ -58,7 +58,7 @@ pub fn write_reply(
     Ok(Bytes::from_vec(reply))
 }
 
-// What follows the status line, where this is the body.
+// Appends what follows the status line. `body` is the body of the reply.
 fn put_rest(
     page: bool,
     body: &[u8],
@@ -147,7 +147,7 @@ fn put_status(status: u16, to: &mut Vec<u8>) -> Result<(), Memory>
     Ok(())
 }
 
-// The three digits of a status that a reply may have.
+// The three digits of a status that has a phrase.
 #[tactic(auto, using(crate::proofs::Statuses::has_digits))]
 fn digits(status: u16) -> &'static str
     requires { IsSome (phrase_of status) }
@@ -219,8 +219,7 @@ fn put_field(name: &[u8], value: &[u8], to: &mut Vec<u8>) -> Result<(), Memory>
     Ok(())
 }
 
-/// A whole reply that closes its connection. Where it answers a request of the method HEAD it has
-/// no body.
+/// A whole reply that closes its connection. If it answers a HEAD request, it has no body.
 pub fn fixed_reply(status: Fixed, head: bool) -> &'static [u8]
     ensures { result.now ≡ reply_bytes (status_of_fixed status) None None [] false head true }
 {

@@ -14,8 +14,8 @@ use jac_value::{Bytes, Memory, Txt};
 use std::alloc::Global;
 use std::str::from_utf8;
 
-/// What stands at the front of a connection's bytes. A head ends with its first blank line, and is
-/// refused where that isn't among the first 8,192 bytes.
+/// What is at the front of a connection's bytes. A head ends with its first blank line. It is
+/// refused if that isn't within the first 8,192 bytes.
 pub fn take_request(alloc: Global, bytes: &[u8]) -> Result<Taken, Memory>
     ensures { IfOk result (λ taken. IsTaken bytes.now taken) }
 {

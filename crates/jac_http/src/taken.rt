@@ -7,19 +7,19 @@ pub struct Request {
     pub path: Txt,
     pub query: Bytes,
     pub body: Bytes,
-    /// The token of the session, where a cookie has one.
+    /// The token of the session, if a cookie has one.
     pub token: Option<Txt>,
-    /// The connection ends after the reply.
+    /// The connection is closed after the reply.
     pub close: bool,
 }
 
-/// What stands at the front of a connection's bytes.
+/// What is at the front of a connection's bytes.
 #[derive(Drop)]
 pub enum Taken {
-    /// The beginning of a request.
+    /// The beginning of a request: more bytes are needed.
     More,
-    /// A request, in so many bytes.
+    /// A request, and the number of its bytes.
     Whole { request: Request, used: usize },
-    /// What is no request, or none that is served.
+    /// Bytes that are no request, or a request that isn't served.
     Refused { status: u16 },
 }

@@ -21,7 +21,7 @@ fn has_scheme(target: &[u8]) -> bool
     is_same_word(&target[..target.len().min(7)], b"http://")
 }
 
-/// The path, which is `/` where the target has none.
+/// The path, or `/` if the target has none.
 pub(crate) fn path_of(alloc: Global, target: &str) -> Result<Txt, Memory>
     ensures { IfOk result (λ t. t ≡ path_of_target target.now) }
 {

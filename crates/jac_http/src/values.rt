@@ -11,8 +11,8 @@ use crate::words::{is_same_word, parts, place_of, trimmed};
 use jac_value::{Memory, is_session_token};
 use std::alloc::Global;
 
-/// The length that the Content-Length headers state, or 65,537 where it is more; none where they
-/// state none.
+/// The length that the Content-Length headers state, or 65,537 if that is more. It is 0 if there is
+/// no such header, and none if there are two or more, or if the value isn't a number.
 pub(crate) fn stated_length(values: &[&[u8]]) -> Option<usize>
     ensures { result ≡ option_map (min 65537) (stated_length (map (λ v. v.now) values.now)) }
 {
@@ -39,7 +39,7 @@ fn all_digits(value: &[u8]) -> bool
     value.iter().all(|byte| byte.is_ascii_digit())
 }
 
-// The number that the digits write, or 65,537 where it is more.
+// The number that the digits write, or 65,537 if that is more.
 fn number_in(digits: &[u8]) -> usize
     requires { IsTrue (is_number digits.now) }
     ensures { result ≡ min 65537 (digits_value 10 digits.now) }
@@ -59,7 +59,7 @@ fn with_digit(number: usize, digit: u8) -> usize
     (number * 10 + (digit - b'0') as usize).min(65_537)
 }
 
-/// Whether the first Content-Type is another than that of a form.
+/// Whether the first Content-Type isn't that of a form.
 pub(crate) fn has_no_form(values: &[&[u8]]) -> bool
     ensures { result ≡ has_no_form (map (λ v. v.now) values.now) }
 {

@@ -11,7 +11,7 @@ pub(crate) fn is_same_word(word: &[u8], other: &[u8]) -> bool
     word.eq_ignore_ascii_case(other)
 }
 
-/// Without the spaces and tabs at both ends.
+/// The bytes without the spaces and tabs at both ends.
 #[tactic(auto, unfolding(crate::specs::Parts::stripped_of_blanks))]
 pub(crate) fn trimmed(bytes: &[u8]) -> &[u8]
     ensures { result.now ≡ stripped_of_blanks bytes.now }
