@@ -1,4 +1,4 @@
--- A piece that is cut in two brings the same.
+-- A piece that is cut in two brings the same entries.
 use Rattle.std.proofs.Common.{◌≡◌, ◌∙◌, ap, sym, subst, refl, ℕ, ◌+◌, ◌-◌, Bool, true, false, Option, Some, None, List, [], ◌∷◌, ◌++◌, map, append_assoc, arith, inl, inr}
 use Rattle.std.proofs.lemmas.List.{map-append}
 use Rattle.std.specs.Option.{option_map}
@@ -11,7 +11,7 @@ use Rattle.jac_hub.specs.Alike.{content, IsHeardAlike}
 use Rattle.jac_hub.proofs.Standing.{with_entries, set-same, set-set, AreOf, after-one, brought-of}
 use Rattle.jac_hub.proofs.Longer.{entries-append, entries-bytes, bytes-twice, of-append, brought-end, brought-joined, closed-longer, closed-spent}
 
--- the entry, one event earlier
+-- The entry, with the place of its event one less.
 abbrev pub earlier : {I A : Type 0} → Entry I A → Entry I A
 earlier entry = record entry { place = entry.place - 1 }
 
@@ -61,7 +61,7 @@ brought_by_earlier h n (Begin c) known log brought = ap (map earlier) brought
 brought_by_earlier h n (Piece c bytes) known log brought = piece_earlier h n c bytes (known c) log brought
 brought_by_earlier h n (Finish c) known log brought = ap (map earlier) brought
 
--- the same events, one place earlier
+-- If events are numbered from n instead of n + 1, each entry's place is one less.
 pub heard-earlier : {I A : Type 0} (h : Hearing I A) (events : List Event) (known : Connections I) (n : ℕ) (log : List (Entry I A))
     → IsHeardFrom h known (n + 1) events log → IsHeardFrom h known n events (map earlier log)
 heard-earlier h [] known n log heard = ap (map earlier) heard
@@ -71,12 +71,12 @@ heard-earlier {I = I} {A = A} h (event ∷ events) known n log (mine, rest, spli
     (heard-earlier h events (after_both h event mine known) (n + 1) rest others) in
     (map earlier mine, map earlier rest, ap (map earlier) split ∙ map-append earlier mine rest, brought_by_earlier h n event known mine brought, moved)
 
--- what two pieces in a row bring, and where it leaves the connections
+-- The joined piece brings the entries of both, and leaves the connections as both do.
 record IsJoined {I A : Type 0} (h : Hearing I A) (n c : ℕ) (xs ys : List ℕ) (known : Connections I) (first second : List (Entry I A)) : Type 0 where
   pub brought : PieceBrings h n c (xs ++ ys) (known c) (first ++ map earlier second)
   pub left : after_both h (Piece c (xs ++ ys)) (first ++ map earlier second) known ≡ after_both h (Piece c ys) second (after_both h (Piece c xs) first known)
 
--- the connections after both, where the connection has begun
+-- The connections after both pieces, if the connection has begun.
 joined_known : {I A : Type 0} (h : Hearing I A) (c : ℕ) (xs ys : List ℕ) (one : Connection I) (known : Connections I) (first second : List (Entry I A)) → known c ≡ Some one → AreOf c first → AreOf c second
     → AreOf c (map earlier second)
     → after_both h (Piece c (xs ++ ys)) (first ++ map earlier second) known ≡ after_both h (Piece c ys) second (after_both h (Piece c xs) first known)
@@ -108,7 +108,7 @@ earlier_of : {I A : Type 0} (c : ℕ) (log : List (Entry I A)) → AreOf c log �
 earlier_of c [] all = tt
 earlier_of c (entry ∷ log) all = (all.0, earlier_of c log all.1)
 
--- without a connection neither piece brings anything
+-- If the connection hasn't begun, neither piece brings anything.
 joined_none : {I A : Type 0} (h : Hearing I A) (n c : ℕ) (xs ys : List ℕ) (known : Connections I) → known c ≡ None → IsJoined h n c xs ys known [] []
 joined_none {I = I} {A = A} h n c xs ys known is =
     let after : (bytes : List ℕ) → after_both h (Piece c bytes) [] known ≡ set_at c None known =
@@ -126,14 +126,14 @@ joined_none {I = I} {A = A} h n c xs ys known is =
 true_false : (b : Bool) → b ≡ true → b ≡ false → ⊥
 true_false b e f = cc
 
--- a connection that was closed before both
+-- A connection that was closed before both pieces.
 joined_closed : {I A : Type 0} (h : Hearing I A) (n c : ℕ) (xs ys : List ℕ) (one : Connection I) (known : Connections I) → known c ≡ Some one → is_closed one ≡ true → IsJoined h n c xs ys known [] []
 joined_closed {I = I} {A = A} h n c xs ys one known is closed = record {
   brought = subst (λ (o : Option (Connection I)). PieceBrings h n c (xs ++ ys) o []) (sym is) (inl (closed, refl));
   left = joined_known h c xs ys one known [] [] is tt tt tt;
 }
 
--- one that wasn't
+-- A connection that was open before both pieces.
 joined_open : {I A : Type 0} (h : Hearing I A) (n c : ℕ) (xs ys : List ℕ) (one : Connection I) (known : Connections I) (first second : List (Entry I A)) → known c ≡ Some one → is_closed one ≡ false
     → AreOf c first → AreOf c second
     → AreBrought h n c (with_bytes ys (with_bytes xs one)) (first ++ map earlier second) → IsJoined h n c xs ys known first second
@@ -220,7 +220,8 @@ joined_here {I = I} {A = A} h law c xs ys events known n log (first, after, spli
       alike = same;
     }
 
--- two pieces in a row of one connection bring what the one piece of both brings, wherever they stand
+-- Two pieces in a row of one connection bring what the joined piece brings, wherever they are among
+-- the events.
 pub pieces-joined : {I A : Type 0} (h : Hearing I A) → IsReading h.reads → (c : ℕ) (xs ys : List ℕ) (front events : List Event) (known : Connections I) (n : ℕ) (log : List (Entry I A))
     → IsHeardFrom h known n (front ++ Piece c xs ∷ (Piece c ys ∷ events)) log → IsHeardAlike h known n (front ++ Piece c (xs ++ ys) ∷ events) log
 pieces-joined h law c xs ys [] events known n log heard = joined_here h law c xs ys events known n log heard

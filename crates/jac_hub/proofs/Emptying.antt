@@ -1,4 +1,4 @@
--- What the calls of `next` give, until they give nothing more.
+-- What the calls of `next` put out until one returns none.
 use Rattle.std.proofs.Common.{◌≡◌, ◌∙◌, ap, sym, subst, refl, ℕ, Bool, true, false, Option, Some, None, List, [], ◌∷◌, ◌++◌, inl}
 use Rattle.jac_hub.specs.declared.handler.Heard.{Heard}
 use Rattle.jac_hub.specs.declared.sent.Sent.{Sent}
@@ -25,13 +25,13 @@ none_some out e = cc
 some_none : (out : HubOut) → Some out ≡ None → ⊥
 some_none out e = cc
 
--- what calls of `next` gave that told nothing of a connection
+-- The calls of `next` put out `given`, left the hub idle, and didn't change the handler.
 pub record GaveOnly {H : Type 0} (given : List HubOut) (hub : HubSeen) (outs : List HubOut) (new : HubSeen) (before after : H) : Type 0 where
   pub put : outs ≡ given
   pub made : new ≡ record hub { turn = Idle }
   pub same : after ≡ before
 
--- what the calls gave of one connection, which stands so before them
+-- What the calls of `next` put out for one connection, given its state before them.
 pub record Empties {I A H : Type 0} (h : Hearing I A) (told : H → ℕ → Heard → Sent → H → A → Type 0) (memory : A) (n c : ℕ) (known : Connection I)
     (hub : HubSeen) (outs : List HubOut) (new : HubSeen) (before after : H) : Type 0 where
   pub mine : List (Entry I A)
@@ -77,7 +77,7 @@ module _ {I A H : Type 0} (h : Hearing I A) (handles : H → ℕ → Heard → S
         same = last.same ∙ e.0;
       }
 
--- one reply, after which the connection is closed
+-- One reply, after which the connection is closed.
 closes_behind : {I A H : Type 0} (h : Hearing I A) (handles : H → ℕ → Heard → Sent → H → Type 0) (told : H → ℕ → Heard → Sent → H → A → Type 0) (memory : A)
     (n c : ℕ) (known : Connection I) (entry : Entry I A) (sent : Sent) (channel : ChannelSeen) (hub between_hub new : HubSeen) (out : HubOut) (outs : List HubOut)
     (before between after : H) → IsNextEntry h n c known entry → (with_entry h entry known).ended ≡ true → channel.closed ≡ true
@@ -101,7 +101,7 @@ closes_behind h handles told memory n c known entry sent channel hub between_hub
     false_true : (b : Bool) → b ≡ false → b ≡ true → ⊥
     false_true b e f = cc
 
--- what follows one reply, after which the connection is served on
+-- What follows a reply after which the connection is served on.
 goes_on : {I A H : Type 0} (h : Hearing I A) (told : H → ℕ → Heard → Sent → H → A → Type 0) (memory : A)
     (n c : ℕ) (known : Connection I) (entry : Entry I A) (sent : Sent) (channel : ChannelSeen) (hub between_hub new : HubSeen) (out : HubOut) (outs : List HubOut)
     (before between after : H) → IsNextEntry h n c known entry
@@ -122,7 +122,7 @@ goes_on h told memory n c known entry sent channel hub between_hub new out outs 
       ∙ ap (λ (channels : ℕ → Option ChannelSeen). record { channels = channels; turn = Idle }) (set-set c (Some rest.later) (Some channel) hub.channels);
 }
 
--- the last call, which gave nothing
+-- The last call, which returned none.
 last_gave : {I A H : Type 0} (h : Hearing I A) (told : H → ℕ → Heard → Sent → H → A → Type 0) (memory : A) (n c : ℕ) (known : Connection I)
     (given : Option Given) (later : ChannelSeen) (hub new : HubSeen) (before after : H) → Gave h told memory n c known given later before after
     → None ≡ out_of c given → new ≡ with_channel c (Some later) (turn_behind c given later.closed) hub → Empties h told memory n c known hub [] new before after
@@ -139,7 +139,7 @@ last_gave h told memory n c known None later hub new before after gave is made =
 last_gave h told memory n c known (Some (GivenReply sent)) later hub new before after gave is made = absurd (none_some (Reply c sent) is)
 last_gave h told memory n c known (Some GivenClosed) later hub new before after gave is made = absurd (none_some (Closed c) is)
 
--- a call that gave something, by whether the connection is closed after it
+-- A call that returned a reply, by whether the connection is closed after it.
 replied : {I A H : Type 0} (h : Hearing I A) (handles : H → ℕ → Heard → Sent → H → Type 0) (told : H → ℕ → Heard → Sent → H → A → Type 0) (memory : A)
     (n c : ℕ) (known : Connection I) (sent : Sent) (later : ChannelSeen) (closed : Bool) (hub between_hub new : HubSeen) (out : HubOut) (outs : List HubOut)
     (before between after : H) → GaveReply h told memory n c known sent later before between → later.closed ≡ closed → out ≡ Reply c sent
@@ -180,8 +180,8 @@ call_gave h handles told memory n c known (Some GivenClosed) later hub between_h
       made = last.made ∙ ap (λ (l : HubSeen). record { channels = l.channels; turn = Idle }) made;
     }
 
--- a connection that is served: the calls give one reply for each entry that its bytes bring, in their order,
--- and then that it is closed, where it is
+-- For a connection that is served, the calls put out one reply for each entry that its bytes bring,
+-- in order. Then they put out that it is closed, if it is.
 pub serving-empties : {I A H : Type 0} (h : Hearing I A) (handles : H → ℕ → Heard → Sent → H → Type 0) (told : H → ℕ → Heard → Sent → H → A → Type 0) (memory : A)
     (n c : ℕ) → Tells h handles told
     → (outs : List HubOut) (hub new : HubSeen) (channel : ChannelSeen) (known : Connection I) (before after : H)
@@ -201,7 +201,8 @@ serving-empties h handles told memory n c tells (out ∷ outs) hub new channel k
     (next-gave h handles told memory n c channel known e.0 e.1 before between tells like open_still e.2) e.3 e.4 rest
     (λ later now t a l o. serving-empties h handles told memory n c tells outs between_hub new later now between after t a l o rest)
 
--- a connection for which memory ran out: the calls give the reply for that, and that it is closed
+-- For a connection that ran out of memory, the calls put out the reply for that, and that it is
+-- closed.
 pub breaking-empties : {I A H : Type 0} (h : Hearing I A) (handles : H → ℕ → Heard → Sent → H → Type 0) (told : H → ℕ → Heard → Sent → H → A → Type 0) (memory : A)
     (n c : ℕ)
     → (outs : List HubOut) (hub new : HubSeen) (channel : ChannelSeen) (known : Connection I) (before after : H)

@@ -1,4 +1,4 @@
--- What an event begins to bring, and what a hub gives before all is given.
+-- The beginning of what an event brings, and what a hub has put out so far.
 use Rattle.std.proofs.Common.{◌≡◌, ◌∙◌, ap, sym, subst, refl, ℕ, true, false, Option, Some, None, Result, List, [], ◌∷◌, ◌++◌, inl, inr, ◌⊎◌}
 use Rattle.jac_events.specs.declared.event.Event.{Event}
 use Rattle.jac_events.specs.declared.event.Event.TheVariants.{Ask, Begin, Piece, Finish}
@@ -19,7 +19,7 @@ use Rattle.jac_hub.proofs.Following.{Tells, grown-like}
 use Rattle.jac_hub.proofs.Giving.{Gives, idle-gives, done-gives, serving-gives, breaking-gives}
 use Rattle.jac_hub.proofs.Events.{none-too, begun-too, piece-closings}
 
--- nothing is given
+-- Nothing is put out.
 quiet_part : {I A H : Type 0} (h : Hearing I A) (told : H → ℕ → Heard → Sent → H → A → Type 0) (memory : A) (n : ℕ) (event : Event) (known : Connections I)
     (outs : List HubOut) (before after : H) → IsBegunBy h n event known [] → (outs ≡ []) × (after ≡ before) → IsServedInPart h told memory n event known outs before after
 quiet_part h told memory n event known outs before after begun given =
@@ -99,7 +99,8 @@ pieces_part h law handles told memory n c tells bytes (Some channel) known resul
     (breaking-gives h handles told memory n c outs stepped new channel (with_bytes bytes b.one) before after
     (ap (λ (l : HubSeen). l.turn) made) (ap (λ (l : HubSeen). l.channels c) made ∙ at) next_in (sym was.closed ∙ open_still) given)
 
--- an event, and some calls of `next` after it, gave the beginning of what the definition brings
+-- After an event and some calls of `next`, the hub has put out the beginning of what the definition
+-- brings.
 pub event-served_in_part : {I A H : Type 0} (h : Hearing I A) → IsReading h.reads → (handles : H → ℕ → Heard → Sent → H → Type 0)
     (told : H → ℕ → Heard → Sent → H → A → Type 0) (memory : A) (n : ℕ) → Tells h handles told
     → (event : Event) (known : Connections I) (result : Result (Unit {0}) HubFault) (old stepped new : HubSeen) (outs : List HubOut) (before after : H)

@@ -1,4 +1,4 @@
--- What an event brings, and what a hub gives for it.
+-- What an event brings, and what a hub puts out for it.
 use Rattle.std.proofs.Common.{◌≡◌, ◌∙◌, ap, sym, subst, refl, ℕ, ◌==◌, ◌&&◌, not, Bool, true, false, Option, Some, None, Result, Err, List, [], ◌++◌, arith, inl, inr}
 use Rattle.std.proofs.lemmas.Bool.Decides.{nat_tests}
 use Rattle.std.specs.Option.{option_map}
@@ -55,7 +55,7 @@ set_like h channels known c x y like here = λ d. at d (d == c) refl
     at d true e = rw e here
     at d false e = rw e (like d)
 
--- what stands there already
+-- Setting the value that is there already changes nothing.
 set_known : {X : Type 0} (c : ℕ) (x : Option X) (xs : ℕ → Option X) → xs c ≡ x → set_at c x xs ≡ xs
 set_known {X = X} c x xs is = λ i d. at d (d == c) refl i
   where
@@ -69,7 +69,7 @@ begun_like h = (refl, λ open_still. new-like h)
 
 -- ---- events that bring nothing
 
--- the hub gives nothing, and stands where the definition does
+-- The hub puts out nothing, and its connections agree with those of the definition.
 brings_nothing : {I A H : Type 0} (h : Hearing I A) (told : H → ℕ → Heard → Sent → H → A → Type 0) (memory : A) (n : ℕ) (event : Event) (known after_known : Connections I)
     (channels : ℕ → Option ChannelSeen) (hub new : HubSeen) (outs : List HubOut) (before after : H)
     → IsBroughtBy h n event known [] → after_event event known ≡ after_known → closings event known after_known ≡ [] → AreLike h channels after_known
@@ -86,7 +86,7 @@ brings_nothing {I = I} h told memory n event known after_known channels hub new 
   idle = ap (λ (l : HubSeen). l.turn) gave.made;
 }
 
--- an event that the hub refused
+-- An event that the hub refused.
 refused_event : {I A H : Type 0} (h : Hearing I A) (handles : H → ℕ → Heard → Sent → H → Type 0) (told : H → ℕ → Heard → Sent → H → A → Type 0) (memory : A) (n : ℕ)
     (event : Event) (known : Connections I) (old stepped new : HubSeen) (outs : List HubOut) (before after : H) → old.turn ≡ Idle → AreLike h old.channels known
     → stepped ≡ old → IsBroughtBy h n event known [] → after_event event known ≡ known → closings event known known ≡ []
@@ -95,7 +95,7 @@ refused_event h handles told memory n event known old stepped new outs before af
     brings_nothing h told memory n event known known old.channels stepped new outs before after brought is quiet like (ap (λ (l : HubSeen). l.channels) same)
     (idle-empties h handles outs stepped new before after (ap (λ (l : HubSeen). l.turn) same ∙ idle) emptied)
 
--- one that it took, and that brings nothing
+-- An event that the hub took, and that brings nothing.
 taken_event : {I A H : Type 0} (h : Hearing I A) (handles : H → ℕ → Heard → Sent → H → Type 0) (told : H → ℕ → Heard → Sent → H → A → Type 0) (memory : A) (n : ℕ)
     (event : Event) (known after_known : Connections I) (channels : ℕ → Option ChannelSeen) (stepped new : HubSeen) (outs : List HubOut) (before after : H)
     → stepped ≡ record { channels = channels; turn = Done } → IsBroughtBy h n event known [] → after_event event known ≡ after_known
@@ -135,14 +135,15 @@ finish_served h handles told memory n c (Some channel) known result old stepped 
     taken_event h handles told memory n (Finish c) known (set_at c None known) (set_at c None old.channels) stepped new outs before after
     made refl refl refl (set_like h old.channels known c None None like tt) emptied
 
--- the connections after a piece, where one has begun
+-- The connections after a piece, if its connection has begun.
 pub piece-left : {I A : Type 0} (h : Hearing I A) (c : ℕ) (bytes : List ℕ) (one : Connection I) (known : Connections I) (mine : List (Entry I A)) → known c ≡ Some one
     → AreOf c mine → after_both h (Piece c bytes) mine known ≡ set_at c (Some (with_entries h mine (with_bytes bytes one))) known
 piece-left {I = I} h c bytes one known mine is all =
     ap (λ (o : Option (Connection I)). after_entries h mine (set_at c (option_map (with_bytes bytes) o) known)) is
     ∙ after-one h c mine (with_bytes bytes one) known all
 
--- where it wasn't closed, what is told is whether it is now
+-- If the connection was open before the piece, `Closed` is put out exactly if it is closed after
+-- it.
 pub piece-closings : {I A : Type 0} (h : Hearing I A) (c : ℕ) (bytes : List ℕ) (one : Connection I) (known : Connections I) (mine : List (Entry I A)) → known c ≡ Some one
     → is_closed one ≡ false → AreOf c mine
     → closings (Piece c bytes) known (after_both h (Piece c bytes) mine known) ≡ closing c (is_closed (with_entries h mine (with_bytes bytes one)))
@@ -153,7 +154,7 @@ piece-closings {I = I} h c bytes one known mine is open_still all =
     ∙ ap (λ (o : Option (Connection I)). closing c (not (is_shut o) && is_closed now)) is
     ∙ ap (λ (b : Bool). closing c (not b && is_closed now)) open_still
 
--- what the calls gave of a connection that wasn't closed
+-- What the calls put out for a connection that was open.
 piece_served : {I A H : Type 0} (h : Hearing I A) (told : H → ℕ → Heard → Sent → H → A → Type 0) (memory : A) (n c : ℕ) (bytes : List ℕ)
     (one : Connection I) (known : Connections I) (channels : ℕ → Option ChannelSeen) (hub new : HubSeen) (outs : List HubOut) (before after : H)
     → AreLike h channels known → known c ≡ Some one → is_closed one ≡ false → ((x : Option ChannelSeen) → set_at c x hub.channels ≡ set_at c x channels)
@@ -222,7 +223,7 @@ pieces_served h law handles told memory n c tells bytes (Some channel) known res
     (breaking-empties h handles told memory n c outs stepped new channel (with_bytes bytes b.one) before after
     (ap (λ (l : HubSeen). l.turn) made) (ap (λ (l : HubSeen). l.channels c) made ∙ at) next_in (sym was.closed ∙ open_still) emptied)
 
--- an event that a hub took, and the calls of `next` after it, gave what the definition brings
+-- For an event that a hub took, the calls of `next` put out what the definition brings.
 pub event-served : {I A H : Type 0} (h : Hearing I A) → IsReading h.reads → (handles : H → ℕ → Heard → Sent → H → Type 0) (told : H → ℕ → Heard → Sent → H → A → Type 0)
     (memory : A) (n : ℕ) → Tells h handles told
     → (event : Event) (known : Connections I) (result : Result (Unit {0}) HubFault) (old stepped new : HubSeen) (outs : List HubOut) (before after : H)

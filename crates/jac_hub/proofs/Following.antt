@@ -1,4 +1,4 @@
--- A hub's connection follows that of the definition.
+-- A hub's connection agrees with that of the definition.
 use Rattle.std.proofs.Common.{◌≡◌, ◌∙◌, ap, sym, subst, refl, ℕ, zero, suc, ◌+◌, ◌-◌, ◌||◌, min, nat_le, Bool, true, false, Option, Some, None, List, [], ◌∷◌, ◌++◌, take, drop, length, length-append, length-take, arith, inl, inr}
 use Rattle.std.proofs.lemmas.Bool.Decides.{nat_tests}
 use Rattle.jac_http.specs.declared.taken.Taken.{Taken}
@@ -15,7 +15,8 @@ use Rattle.jac_hub.specs.Channel.{LIMIT, ChannelSeen, new_channel, channel_with,
 use Rattle.jac_hub.specs.Served.{IsLike, IsLikeAfter, IsEntryAnswered, AgreesSent}
 use Rattle.jac_hub.proofs.Reading.{stand-longer, stand-push}
 
--- each answer of a handler, whose relation is `handles`, is told with an answer that agrees
+-- For each call of a handler, which `handles` relates, `told` relates it with an answer that agrees
+-- with what was sent.
 abbrev pub Tells : {I A H : Type 0} → Hearing I A → (H → ℕ → Heard → Sent → H → Type 0) → (H → ℕ → Heard → Sent → H → A → Type 0) → Type 0
 Tells {A = A} {H = H} h handles told =
     (before after : H) (c : ℕ) (heard : Heard) (sent : Sent) → handles before c heard sent after
@@ -31,7 +32,7 @@ take_past (suc n) (x ∷ xs) ys =
 room_left : (l n : ℕ) → l - min l n ≡ l - n
 room_left l n = omega arith
 
--- the bytes of a piece that count stand after those that are unused
+-- A piece keeps the agreement: its bytes that count follow the unused ones.
 pub grown-like : {I A : Type 0} (h : Hearing I A) → IsReading h.reads → (channel : ChannelSeen) (known : Connection I) (bytes : List ℕ)
     → IsLike h channel known → IsLike h (channel_with bytes channel) (with_bytes bytes known)
 grown-like h law channel known bytes like =
@@ -55,7 +56,7 @@ full_by b l n e = rw e (full l n)
     full : (x y : ℕ) → nat_le x (min x y) ≡ nat_le x y
     full x y = grind (arith, nat_tests)
 
--- where no entry closed it, a connection is closed where all that counts was taken
+-- If no entry closed it, a connection is closed exactly if all bytes that count were taken.
 pub full-closed : {I A : Type 0} (h : Hearing I A) (channel : ChannelSeen) (known : Connection I) → IsLike h channel known → channel.closed ≡ false
     → nat_le LIMIT channel.taken ≡ is_closed known
 full-closed h channel known like open_still =
@@ -71,12 +72,12 @@ new-like h = record { taken = small LIMIT; unused = none LIMIT; closed = refl }
     none zero = refl
     none (suc l) = refl
 
--- an entry that a connection gets, and how both stand after it
+-- The next entry of a connection, and the agreement after it.
 pub record GetsNext {I A : Type 0} (h : Hearing I A) (n c : ℕ) (known : Connection I) (entry : Entry I A) (later : ChannelSeen) : Type 0 where
   pub next : IsNextEntry h n c known entry
   pub like : IsLike h later (with_entry h entry known)
 
--- a subject at the front of what is unused is the next; after it `rest` is unused
+-- A subject at the front of the unused bytes is the next one. After it, `rest` is unused.
 gets_next : {I A : Type 0} (h : Hearing I A) (n c : ℕ) (channel : ChannelSeen) (known : Connection I) (subject : Subject I) (rest : List ℕ) (answer : A)
     → IsLike h channel known → channel.closed ≡ false → StandsAt h subject channel.unused rest
     → let entry : Entry I A = record { place = n; source = connection c; subject = subject; answer = answer } in
@@ -97,7 +98,7 @@ gets_next h n c channel known subject rest answer like open_still stands =
       };
     }
 
--- what a call of `next` on a connection gave, by what it gave
+-- A call of `next` on a connection gave a reply for the next entry.
 pub record GaveReply {I A H : Type 0} (h : Hearing I A) (told : H → ℕ → Heard → Sent → H → A → Type 0) (memory : A) (n c : ℕ) (known : Connection I)
     (sent : Sent) (later : ChannelSeen) (before after : H) : Type 0 where
   pub entry : Entry I A
@@ -173,8 +174,8 @@ read_gave {I = I} {A = A} h handles told memory n c channel known (Refused statu
     } in
     subst (λ (o : Option Given). Gave h told memory n c known o later before after) (sym is) gave
 
--- a call of `next` on a connection that isn't closed: a reply is for the next entry, and where none is given
--- the entries are all that the event brings
+-- A call of `next` on an open connection. A reply is for the next entry. If no reply is given, the
+-- entries so far are all that the event brings.
 pub next-gave : {I A H : Type 0} (h : Hearing I A) (handles : H → ℕ → Heard → Sent → H → Type 0) (told : H → ℕ → Heard → Sent → H → A → Type 0) (memory : A)
     (n c : ℕ) (channel : ChannelSeen) (known : Connection I) (given : Option Given) (later : ChannelSeen) (before after : H)
     → Tells h handles told → IsLike h channel known → channel.closed ≡ false

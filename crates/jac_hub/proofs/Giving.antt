@@ -1,4 +1,4 @@
--- What some calls of `next` give.
+-- What some calls of `next` put out.
 use Rattle.std.proofs.Common.{◌≡◌, ◌∙◌, ap, sym, subst, refl, ℕ, Bool, true, false, Option, Some, None, List, [], ◌∷◌, ◌++◌, inl, inr, ◌⊎◌}
 use Rattle.jac_http.specs.declared.taken.Taken.{Taken}
 use Rattle.jac_hub.specs.declared.handler.Heard.{Heard}
@@ -23,7 +23,7 @@ some_same out other e = cc
 some_none : (out : HubOut) → Some out ≡ None → ⊥
 some_none out e = cc
 
--- one more call
+-- One more call.
 pub given-push : {H : Type 0} (reads : List ℕ → Taken → Type 0) (handles : H → ℕ → Heard → Sent → H → Type 0) (outs : List HubOut) (hub between_hub new : HubSeen) (out : HubOut)
     (before between after : H) → IsGiven reads handles hub outs between_hub before between → Nexts reads handles between_hub between_hub.turn (Some out) new between after
     → IsGiven reads handles hub (outs ++ out ∷ []) new before after
@@ -33,7 +33,7 @@ given-push {H = H} reads handles [] hub between_hub new out before between after
 given-push reads handles (first ∷ outs) hub between_hub new out before between after (later, then, call, rest) next =
     (later, then, call, given-push reads handles outs later between_hub new out then between after rest next)
 
--- a call that gives nothing
+-- A last call that returns none.
 pub given-all : {H : Type 0} (reads : List ℕ → Taken → Type 0) (handles : H → ℕ → Heard → Sent → H → Type 0) (outs : List HubOut) (hub between_hub new : HubSeen)
     (before between after : H) → IsGiven reads handles hub outs between_hub before between → Nexts reads handles between_hub between_hub.turn None new between after
     → IsEmptied reads handles hub outs new before after
@@ -43,7 +43,7 @@ given-all {H = H} reads handles [] hub between_hub new before between after (sam
 given-all reads handles (first ∷ outs) hub between_hub new before between after (later, then, call, rest) next =
     (later, then, call, given-all reads handles outs later between_hub new then between after rest next)
 
--- what some calls gave of one connection, which stands so before them
+-- What some calls put out for one connection, given its state before them.
 pub record Gives {I A H : Type 0} (h : Hearing I A) (told : H → ℕ → Heard → Sent → H → A → Type 0) (memory : A) (n c : ℕ) (known : Connection I)
     (outs : List HubOut) (before after : H) : Type 0 where
   pub mine : List (Entry I A)
@@ -76,7 +76,7 @@ module _ {I A H : Type 0} (h : Hearing I A) (handles : H → ℕ → Heard → S
       let first : out ≡ Closed c = some_same out (Closed c) e.1 in
       (inr (λ i. first i ∷ last.0 i), last.1 ∙ e.0)
 
--- what is put after one more reply
+-- One reply before what later calls put out.
 put_behind : {I A : Type 0} (h : Hearing I A) (n c : ℕ) (known : Connection I) (entry : Entry I A) (mine : List (Entry I A)) (out first : HubOut) (outs replies : List HubOut)
     → IsNextEntry h n c known entry → out ≡ first
     → (outs ≡ replies) ⊎ (AreBrought h n c (with_entry h entry known) mine × (is_closed (with_entries h mine (with_entry h entry known)) ≡ true) × (outs ≡ replies ++ Closed c ∷ []))
@@ -85,7 +85,7 @@ put_behind : {I A : Type 0} (h : Hearing I A) (n c : ℕ) (known : Connection I)
 put_behind h n c known entry mine out first outs replies next is (inl some) = inl (λ i. is i ∷ some i)
 put_behind h n c known entry mine out first outs replies next is (inr (all, closed, told_closed)) = inr ((next, all), closed, λ i. is i ∷ told_closed i)
 
--- what follows one reply
+-- What follows one reply.
 goes_on : {I A H : Type 0} (h : Hearing I A) (told : H → ℕ → Heard → Sent → H → A → Type 0) (memory : A)
     (n c : ℕ) (known : Connection I) (entry : Entry I A) (sent : Sent) (out : HubOut) (outs : List HubOut)
     (before between after : H) → IsNextEntry h n c known entry → IsEntryAnswered h told memory c entry.subject entry.answer sent before between → out ≡ Reply c sent
@@ -98,7 +98,7 @@ goes_on h told memory n c known entry sent out outs before between after next an
   put = put_behind h n c known entry rest.mine out (Reply c sent) outs rest.replies next is rest.put;
 }
 
--- a connection that an entry closed gives only that
+-- A connection that an entry closed puts out nothing but that it is closed.
 closed_gives : {I A H : Type 0} (h : Hearing I A) (told : H → ℕ → Heard → Sent → H → A → Type 0) (memory : A) (n c : ℕ) (known : Connection I) (outs : List HubOut)
     (before after : H) → known.ended ≡ true → (outs ≡ []) ⊎ (outs ≡ Closed c ∷ []) → after ≡ before → Gives h told memory n c known outs before after
 closed_gives h told memory n c known outs before after ended put same = record {
@@ -124,7 +124,7 @@ closes_behind h handles told memory n c known entry sent between_hub new out out
     goes_on h told memory n c known entry sent out outs before between after next answered is
     (closed_gives h told memory n c (with_entry h entry known) outs between after ended last.0 last.1)
 
--- a call that gave something, by whether the connection is closed after it
+-- A call that returned a reply, by whether the connection is closed after it.
 replied : {I A H : Type 0} (h : Hearing I A) (handles : H → ℕ → Heard → Sent → H → Type 0) (told : H → ℕ → Heard → Sent → H → A → Type 0) (memory : A)
     (n c : ℕ) (known : Connection I) (sent : Sent) (later : ChannelSeen) (closed : Bool) (hub between_hub new : HubSeen) (out : HubOut) (outs : List HubOut)
     (before between after : H) → GaveReply h told memory n c known sent later before between → later.closed ≡ closed → out ≡ Reply c sent
@@ -162,7 +162,7 @@ call_gives h handles told memory n c known (Some GivenClosed) later hub between_
       put = inr (gave.brought, gave.is_closed, λ i. first i ∷ last.0 i);
     }
 
--- a connection that is served
+-- A connection that is served.
 pub serving-gives : {I A H : Type 0} (h : Hearing I A) (handles : H → ℕ → Heard → Sent → H → Type 0) (told : H → ℕ → Heard → Sent → H → A → Type 0) (memory : A)
     (n c : ℕ) → Tells h handles told
     → (outs : List HubOut) (hub new : HubSeen) (channel : ChannelSeen) (known : Connection I) (before after : H)
@@ -178,7 +178,7 @@ serving-gives h handles told memory n c tells (out ∷ outs) hub new channel kno
     (next-gave h handles told memory n c channel known e.0 e.1 before between tells like open_still e.2) e.3 e.4 rest
     (λ later now t a l o. serving-gives h handles told memory n c tells outs between_hub new later now between after t a l o rest)
 
--- a connection for which memory ran out
+-- A connection that ran out of memory.
 pub breaking-gives : {I A H : Type 0} (h : Hearing I A) (handles : H → ℕ → Heard → Sent → H → Type 0) (told : H → ℕ → Heard → Sent → H → A → Type 0) (memory : A)
     (n c : ℕ)
     → (outs : List HubOut) (hub new : HubSeen) (channel : ChannelSeen) (known : Connection I) (before after : H)

@@ -1,4 +1,4 @@
--- How a connection stands after entries and more bytes.
+-- The state of a connection after entries and more bytes.
 use Rattle.std.proofs.Common.{◌≡◌, ap, sym, subst, refl, ℕ, zero, suc, ◌≤◌, ◌||◌, nat_le, Bool, true, false, List, [], ◌∷◌, ◌++◌, take, length, append_assoc, length-append, arith, inl, inr, ◌⊎◌}
 use Rattle.std.proofs.lemmas.Bool.Decides.{nat_tests}
 use Rattle.std.proofs.lemmas.List.{take-append-le}
@@ -9,7 +9,7 @@ use Rattle.jac_hub.specs.Channel.{LIMIT}
 use Rattle.jac_hub.proofs.Reading.{stand-longer, stands-longer}
 use Rattle.jac_hub.proofs.Standing.{with_entries, AreOf}
 
--- the bytes within a number, of a longer list
+-- The first n elements of a list begin the first n of a longer list.
 take_more : (n : ℕ) (xs ys : List ℕ) → (extra : List ℕ) × (take n (xs ++ ys) ≡ take n xs ++ extra)
 take_more zero xs ys = ([], refl)
 take_more (suc n) [] ys = (take (suc n) ys, refl)
@@ -18,7 +18,7 @@ take_more (suc n) (x ∷ xs) ys = let r = take_more n xs ys in (r.0, ap (λ (l :
 pub counted-longer : {I : Type 0} (one : Connection I) (bytes : List ℕ) → (extra : List ℕ) × (bytes_counted (with_bytes bytes one) ≡ bytes_counted one ++ extra)
 counted-longer one bytes = take_more LIMIT one.bytes bytes
 
--- a one whose bytes are all taken counts no more
+-- If a connection has all bytes that count, more bytes add none.
 pub counted-full : {I : Type 0} (one : Connection I) (bytes : List ℕ) → LIMIT ≤ length one.bytes → bytes_counted (with_bytes bytes one) ≡ bytes_counted one
 counted-full one bytes full = take-append-le LIMIT one.bytes bytes full
 
@@ -53,13 +53,13 @@ pub of-append : {I A : Type 0} (c : ℕ) (xs ys : List (Entry I A)) → AreOf c 
 of-append c [] ys a b = b
 of-append c (x ∷ xs) ys a b = (a.0, of-append c xs ys a.1 b)
 
--- where an event's entries end, the one is closed or read
+-- After an event's entries, one of them has closed the connection, or its bytes are read through.
 pub brought-end : {I A : Type 0} (h : Hearing I A) (n c : ℕ) (one : Connection I) (log : List (Entry I A)) → AreBrought h n c one log
     → ((with_entries h log one).ended ≡ true) ⊎ IsReadThrough h (with_entries h log one)
 brought-end h n c one [] brought = brought
 brought-end h n c one (entry ∷ log) brought = brought-end h n c (with_entry h entry one) log brought.1
 
--- what is next stays so when more bytes come
+-- The next subject stays the next when more bytes come.
 next_in-longer : {I A : Type 0} (h : Hearing I A) → IsReading h.reads → (one : Connection I) (s : Subject I) (bytes : List ℕ) → IsNextIn h one s → IsNextIn h (with_bytes bytes one) s
 next_in-longer h law one s bytes (from, to, behind, stands) =
     let longer = counted-longer one bytes in
@@ -76,7 +76,7 @@ next-longer h law n c one entry bytes next = record {
   subject = next_in-longer h law one entry.subject bytes next.subject;
 }
 
--- the entries before a cut and those after it, without it
+-- The entries before a cut and those after it are brought without the cut.
 pub brought-joined : {I A : Type 0} (h : Hearing I A) → IsReading h.reads → (n c : ℕ) (one : Connection I) (front back : List (Entry I A)) (bytes : List ℕ)
     → AreBrought h n c one front → AreBrought h n c (with_bytes bytes (with_entries h front one)) back
     → AreBrought h n c (with_bytes bytes one) (front ++ back)
@@ -84,7 +84,8 @@ brought-joined h law n c one [] back bytes first second = second
 brought-joined h law n c one (entry ∷ front) back bytes first second =
     (next-longer h law n c one entry bytes first.0, brought-joined h law n c (with_entry h entry one) front back bytes first.1 second)
 
--- where the one was closed before the second piece, that brings nothing in the whole one either
+-- If the connection was closed before the second piece, the joined piece brings nothing more than
+-- the first.
 pub closed-spent : {I A : Type 0} (h : Hearing I A) (one : Connection I) (bytes : List ℕ) → is_closed one ≡ true → (one.ended ≡ true) ⊎ IsReadThrough h one
     → (one.ended ≡ true) ⊎ IsReadThrough h (with_bytes bytes one)
 closed-spent h one bytes closed (inl ended) = inl ended

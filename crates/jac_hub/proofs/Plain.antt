@@ -1,4 +1,4 @@
--- A request that is understood as itself, and an answer that is what is sent.
+-- The plain hearing: a request is understood as itself, and its answer is what is sent.
 use Rattle.std.proofs.Common.{refl, ℕ}
 use Rattle.jac_hub.specs.declared.handler.Heard.{Heard}
 use Rattle.jac_hub.specs.declared.handler.Heard.TheVariants.{Whole, Refused}

@@ -13,7 +13,7 @@ whole_no_more request used e = cc
 refused_no_more : (status : ℕ) → Refused status ≢ More
 refused_no_more status e = cc
 
--- more bytes after a subject stay after it
+-- If more bytes are appended, they come after what follows the subject.
 pub stands-longer : {I A : Type 0} (h : Hearing I A) → IsReading h.reads → (subject : Subject I) (from to bytes : List ℕ)
     → StandsAt h subject from to → StandsAt h subject (from ++ bytes) (to ++ bytes)
 stands-longer h law (whole inquiry close) from to bytes (request, used, reads, i, c, at) =
@@ -30,7 +30,7 @@ stand-longer h law [] from to bytes at = ap (λ (t : List ℕ). t ++ bytes) at
 stand-longer h law (subject ∷ subjects) from to bytes (rest, first, others) =
     (rest ++ bytes, stands-longer h law subject from rest bytes first, stand-longer h law subjects rest to bytes others)
 
--- one more subject
+-- One more subject.
 pub stand-push : {I A : Type 0} (h : Hearing I A) (subjects : List (Subject I)) (subject : Subject I) (from between to : List ℕ)
     → StandAt h subjects from between → StandsAt h subject between to → StandAt h (subjects ++ subject ∷ []) from to
 stand-push h [] subject from between to at one = (to, subst (λ (f : List ℕ). StandsAt h subject f to) at one, refl)

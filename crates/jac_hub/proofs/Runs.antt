@@ -1,4 +1,4 @@
--- A run of a hub, and what is heard.
+-- A run of a hub, and the log that its events bring.
 use Rattle.std.proofs.Common.{◌≡◌, ◌∙◌, ap, refl, ℕ, ◌+◌, List, [], ◌∷◌, ◌++◌}
 use Rattle.jac_events.specs.declared.event.Event.{Event}
 use Rattle.jac_http.specs.Reading.{IsReading}
@@ -13,7 +13,7 @@ use Rattle.jac_hub.specs.Served.{AreLike, RunsHub, AreServed}
 use Rattle.jac_hub.proofs.Following.{Tells}
 use Rattle.jac_hub.proofs.Events.{event-served}
 
--- a log that a run brings, with what was put out for it
+-- A log that a run brings, with what was put out for it.
 pub record HasLog {I A H : Type 0} (h : Hearing I A) (told : H → ℕ → Heard → Sent → H → A → Type 0) (memory : A) (known : Connections I) (n : ℕ)
     (events : List Event) (outs : List HubOut) (before after : H) : Type 0 where
   pub log : List (Entry I A)
@@ -46,7 +46,7 @@ run-served h law handles told memory tells (event ∷ events) n known hub new ou
       );
     }
 
--- such a log is heard
+-- A log that was served is one that the events bring.
 pub served-heard : {I A H : Type 0} (h : Hearing I A) (told : H → ℕ → Heard → Sent → H → A → Type 0) (memory : A)
     (events : List Event) (n : ℕ) (known : Connections I) (log : List (Entry I A)) (outs : List HubOut) (before after : H)
     → AreServed h told memory known n events log outs before after → IsHeardFrom h known n events log

@@ -1,4 +1,4 @@
--- What is read is sound.
+-- Answers that are read are sound.
 use Rattle.std.proofs.Common.{◌≡◌, subst, sym, refl, inl, inr, ℕ, ◌+◌, ◌<◌, Bool, true, false, Option, Some, None, Result, Ok, Err, IfOk, is_none, List, [], ◌∷◌, ◌++◌, length, length-append, arith, take, drop, not, nat_lt, if◌then◌else◌}
 use Rattle.jac_value.specs.declared.memory.Memory.{Memory}
 use Rattle.jac_http.specs.declared.taken.Request.{Request}
@@ -39,7 +39,7 @@ unfolding AllRefuse
 first_refuses [] status all e = absurd cc
 first_refuses (row ∷ rows) status all e = by_row row.0 row.1 status (first_status rows) e all.0 (first_refuses rows status all.1)
 
--- each row of the table has such a status
+-- Each row of the table has the status of a refusal.
 row_status : (head : HeadParts) (status : ℕ) → refusal_status head ≡ Some status → is_refusal status ≡ true
 unfolding AllRefuse
 row_status head status e =
@@ -74,7 +74,7 @@ some_by : (b : Bool) (front here : List ℕ) (on : Option (List ℕ)) → 0 < le
 some_by true front here on some later e = let same : here ≡ front = cc in subst (λ (xs : List ℕ). 0 < length xs) same some
 some_by false front here on some later e = later e
 
--- a head has bytes
+-- A head isn't empty.
 some_front : (before xs front : List ℕ) → head_from before xs ≡ Some front → 0 < length front
 some_front before [] front e = absurd (none_some front e)
 some_front before (b ∷ xs) front e =
@@ -107,7 +107,7 @@ sound law bytes (Whole request used) reads =
     (used_at (head_in (take 8192 bytes)) bytes request used (some_front [] (take 8192 bytes)) reads, law.within bytes request used reads)
 sound law bytes (Refused status) reads = refused_at (head_in (take 8192 bytes)) bytes status reads
 
--- whatever was taken from the bytes is sound
+-- An answer that was taken from the bytes is sound.
 pub all_sound : IsReading IsTaken → (bytes : List ℕ) (result : Result Taken Memory) → IfOk result (λ taken. IsTaken bytes taken) → IfOk result (λ taken. IsSoundAnswer bytes taken)
 all_sound law bytes (Ok taken) reads = sound law bytes taken reads
 all_sound law bytes (Err memory) reads = tt

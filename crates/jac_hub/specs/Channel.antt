@@ -10,12 +10,12 @@ use Rattle.jac_hub.specs.declared.sent.Sent.TheVariants.{Made, Still}
 use Rattle.jac_hub.specs.declared.channel.Given.{Given}
 use Rattle.jac_hub.specs.declared.channel.Given.TheVariants.{Reply, Closed}
 
--- so many bytes of a connection count
+-- The number of bytes of a connection that count: 16 MiB.
 unfoldable pub LIMIT : ℕ
 LIMIT = 16777216
 
--- the bytes that no answered request used, how many were taken, and whether the connection is
--- closed
+-- The bytes that no answered request used, the number of bytes that were taken, and whether the
+-- connection is closed.
 pub record ChannelSeen : Type 0 where
   pub unused : List ℕ
   pub taken : ℕ
@@ -24,7 +24,7 @@ pub record ChannelSeen : Type 0 where
 abbrev pub new_channel : ChannelSeen
 new_channel = record { unused = []; taken = 0; closed = false }
 
--- with what still counts of a piece
+-- The channel with those bytes of a piece that still count.
 abbrev pub channel_with : List ℕ → ChannelSeen → ChannelSeen
 channel_with bytes channel = record channel {
   unused = channel.unused ++ take (LIMIT - channel.taken) bytes;
@@ -34,24 +34,23 @@ channel_with bytes channel = record channel {
 abbrev pub shut : ChannelSeen → ChannelSeen
 shut channel = record channel { closed = true }
 
--- the reply for want of memory
+-- The reply when memory runs out.
 abbrev pub fixed_500 : Sent
 fixed_500 = Still Memory500 false None
 
--- the connection ends after what was sent
+-- The connection is closed after what was sent.
 abbrev pub sent_closes : Sent → Bool
 sent_closes (Made line audit close) = close
 sent_closes (Still status head viewer) = true
 
--- at the beginning of a request: a connection whose bytes are all taken is closed, and another
--- waits
+-- The bytes are the beginning of a request. If all bytes that count were taken, the connection is
+-- closed. If not, it waits.
 abbrev pub Waits : ChannelSeen → Option Given → ChannelSeen → Type 0
 Waits channel result new =
     ((nat_le LIMIT channel.taken ≡ true) × (result ≡ Some Closed) × (new ≡ shut channel))
     ⊎ ((nat_le LIMIT channel.taken ≡ false) × (result ≡ None) × (new ≡ channel))
 
--- a request, or what is refused, is answered by one call of the handler, whose relation is
--- `handles`
+-- A request or a refusal is answered by one call of the handler, which `handles` relates.
 abbrev pub AnswersFront : {H : Type 0} → (H → ℕ → Heard → Sent → H → Type 0) → ℕ → ChannelSeen
     → Taken → Option Given → ChannelSeen → H → H → Type 0
 AnswersFront handles c channel More result new before after = (after ≡ before)
@@ -67,12 +66,12 @@ AnswersFront handles c channel (Refused status) result new before after =
     (sent : Sent) × handles before c (HeardRefused status) sent after × (result ≡ Some (Reply sent))
     × (new ≡ shut channel)
 
--- want of memory
+-- Memory runs out: the fixed reply is given, and the connection is closed.
 abbrev pub Fails : {H : Type 0} → ChannelSeen → Option Given → ChannelSeen → H → H → Type 0
 Fails channel result new before after = (after ≡ before) × (result ≡ Some (Reply fixed_500))
     × (new ≡ shut channel)
 
--- the next thing that connection c gives
+-- The next thing that connection c gives.
 abbrev pub NextOfChannel : {H : Type 0} → (List ℕ → Taken → Type 0) → (H → ℕ → Heard → Sent → H
     → Type 0) → ℕ → ChannelSeen → Option Given → ChannelSeen → H → H → Type 0
 NextOfChannel reads handles c channel result new before after =
@@ -80,7 +79,7 @@ NextOfChannel reads handles c channel result new before after =
     ⊎ ((taken : Taken) × reads channel.unused taken × AnswersFront handles c channel taken result
     new before after)
 
--- after a reply the connection is closed, or less of it is unused
+-- After a reply, the connection is closed or has fewer unused bytes.
 abbrev pub IsNearer : ChannelSeen → Option Given → ChannelSeen → Type 0
 IsNearer old None new = Unit {0}
 IsNearer old (Some Closed) new = Unit {0}

@@ -19,7 +19,7 @@ use Rattle.jac_hub.specs.declared.hub.Turn.TheVariants.{Idle, Serving, Breaking,
 use Rattle.jac_hub.specs.Heard.{set_at}
 use Rattle.jac_hub.specs.Channel.{ChannelSeen, new_channel, channel_with, shut, fixed_500, NextOfChannel}
 
--- the connections that have begun, by their numbers, and what is to come of the last event
+-- The connections that have begun, by number, and what is still to come for the last event.
 pub record HubSeen : Type 0 where
   pub channels : ℕ → Option ChannelSeen
   pub turn : Turn
@@ -30,11 +30,11 @@ hub_seen hub = record { channels = get nat_cmp hub.channels; turn = hub.turn }
 abbrev pub new_hub : HubSeen
 new_hub = record { channels = λ c. None; turn = Idle }
 
--- the hub with this at a number, and that to come
+-- The hub with this channel at c and this turn.
 abbrev pub with_channel : ℕ → Option ChannelSeen → Turn → HubSeen → HubSeen
 with_channel c channel turn hub = record { channels = set_at c channel hub.channels; turn = turn }
 
--- an event of a connection
+-- An event of a connection.
 abbrev pub IsOfConnection : Event → Type 0
 IsOfConnection (Ask viewer method path query body) = ⊥
 IsOfConnection (Begin c) = Unit {0}
@@ -48,7 +48,7 @@ StepsBegin old c None result new =
     ⊎ ((result ≡ Err Memory) × (new ≡ old))
 StepsBegin old c (Some channel) result new = (result ≡ Err (AlreadyOpen c)) × (new ≡ old)
 
--- a piece of a closed connection changes nothing; for want of memory nothing of it is taken
+-- A piece of a closed connection changes nothing. If memory runs out, none of its bytes are taken.
 abbrev pub StepsPiece : HubSeen → ℕ → List ℕ → Option ChannelSeen → Result (Unit {0}) HubFault
     → HubSeen → Type 0
 StepsPiece old c bytes None result new = (result ≡ Err (NotOpen c)) × (new ≡ old)
@@ -64,20 +64,21 @@ StepsFinish old c None result new = (result ≡ Err (NotOpen c)) × (new ≡ old
 StepsFinish old c (Some channel) result new = (result ≡ Ok tt)
     × (new ≡ with_channel c None Done old)
 
--- `step`, of an idle hub
+-- What `step` does on an idle hub.
 abbrev pub Steps : HubSeen → Event → Result (Unit {0}) HubFault → HubSeen → Type 0
 Steps old (Ask viewer method path query body) result new = ⊥
 Steps old (Begin c) result new = StepsBegin old c (old.channels c) result new
 Steps old (Piece c bytes) result new = StepsPiece old c bytes (old.channels c) result new
 Steps old (Finish c) result new = StepsFinish old c (old.channels c) result new
 
--- what is put out for what a connection gives
+-- What is put out for what a connection gives.
 abbrev pub out_of : ℕ → Option Given → Option HubOut
 out_of c None = None
 out_of c (Some (GivenReply sent)) = Some (Reply c sent)
 out_of c (Some GivenClosed) = Some (Closed c)
 
--- after a reply the connection is served on, or that it is closed is to come
+-- The turn after what a connection gave. After a reply, the connection is served on, or that it is
+-- closed is put out next.
 abbrev pub turn_behind : ℕ → Option Given → Bool → Turn
 turn_behind c None closed = Idle
 turn_behind c (Some (GivenReply sent)) closed = if closed then Closing c else Serving c
@@ -94,14 +95,14 @@ NextServing reads handles old c (Some channel) result new before after =
     × (result ≡ out_of c given)
     × (new ≡ with_channel c (Some later) (turn_behind c given later.closed) old)
 
--- a connection for which memory ran out
+-- The reply for a connection that ran out of memory.
 abbrev pub NextBreaking : HubSeen → ℕ → Option ChannelSeen → Option HubOut → HubSeen → Type 0
 NextBreaking old c None result new = (result ≡ Some (Reply c fixed_500))
     × (new ≡ record old { turn = Closing c })
 NextBreaking old c (Some channel) result new = (result ≡ Some (Reply c fixed_500))
     × (new ≡ with_channel c (Some (shut channel)) (Closing c) old)
 
--- `next`, by what is to come
+-- What `next` does, by the turn.
 abbrev pub Nexts : {H : Type 0} → (List ℕ → Taken → Type 0) → (H → ℕ → Heard → Sent → H → Type 0)
     → HubSeen → Turn → Option HubOut → HubSeen → H → H → Type 0
 Nexts reads handles old Idle result new before after = (after ≡ before) × (result ≡ None)
@@ -119,7 +120,7 @@ abbrev pub unused_in : Option ChannelSeen → ℕ
 unused_in None = 0
 unused_in (Some channel) = length channel.unused
 
--- how much `next` may still put out, at most
+-- The most that `next` may still put out.
 abbrev pub puts_left_by : Turn → (ℕ → Option ChannelSeen) → ℕ
 puts_left_by Idle channels = 0
 puts_left_by (Serving c) channels = unused_in (channels c) + 4

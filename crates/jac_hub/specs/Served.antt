@@ -18,15 +18,15 @@ use Rattle.jac_hub.specs.Heard.{Connection, Connections, bytes_counted, is_close
 use Rattle.jac_hub.specs.Channel.{LIMIT, ChannelSeen, sent_closes, fixed_500}
 use Rattle.jac_hub.specs.Hub.{HubSeen, Steps, Nexts}
 
--- a hub's connection beside that of the definition, while an event's entries are brought: what is
--- unused stands after what was heard
+-- The agreement of a hub's connection with that of the definition, while an event's entries are
+-- brought. The unused bytes follow what was heard.
 pub record IsLike {I A : Type 0} (h : Hearing I A) (channel : ChannelSeen) (known : Connection I) :
     Type 0 where
   pub taken : channel.taken ≡ min LIMIT (length known.bytes)
   pub unused : StandAt h known.heard (bytes_counted known) channel.unused
   pub closed : channel.closed ≡ known.ended
 
--- between events; of a closed connection only that matters
+-- The agreement between events. If the connection is closed, only that has to agree.
 abbrev pub IsLikeAfter : {I A : Type 0} → Hearing I A → ChannelSeen → Connection I → Type 0
 IsLikeAfter h channel known = (channel.closed ≡ is_closed known) × ((is_closed known ≡ false)
     → IsLike h channel known)
@@ -38,13 +38,13 @@ AreLikeAt h None (Some known) = ⊥
 AreLikeAt h (Some channel) None = ⊥
 AreLikeAt h (Some channel) (Some known) = IsLikeAfter h channel known
 
--- an idle hub beside the connections of the definition
+-- The agreement of an idle hub with the connections of the definition.
 abbrev pub AreLike : {I A : Type 0} → Hearing I A → (ℕ → Option ChannelSeen) → Connections I
     → Type 0
 AreLike h channels known = (c : ℕ) → AreLikeAt h (channels c) (known c)
 
--- the calls of `next` put out these, and then nothing more; `before` and `after` are the handler's
--- states
+-- The calls of `next` put out these, and then return none. `before` and `after` are the handler's
+-- states.
 abbrev pub IsEmptied : {H : Type 0} → (List ℕ → Taken → Type 0) → (H → ℕ → Heard → Sent → H
     → Type 0) → HubSeen → List HubOut → HubSeen → H → H → Type 0
 IsEmptied reads handles hub [] new before after = Nexts reads handles hub hub.turn None new before
@@ -54,7 +54,7 @@ IsEmptied {H = H} reads handles hub (out ∷ outs) new before after =
     between
     × IsEmptied reads handles later outs new between after
 
--- some calls of `next`, each of which put something out
+-- Some calls of `next`, each of which put something out.
 abbrev pub IsGiven : {H : Type 0} → (List ℕ → Taken → Type 0) → (H → ℕ → Heard → Sent → H → Type 0)
     → HubSeen → List HubOut → HubSeen → H → H → Type 0
 IsGiven reads handles hub [] new before after = (new ≡ hub) × (after ≡ before)
@@ -63,7 +63,7 @@ IsGiven {H = H} reads handles hub (out ∷ outs) new before after =
     between
     × IsGiven reads handles later outs new between after
 
--- a connection that has begun and is closed
+-- The connection has begun and is closed.
 abbrev pub is_shut : {I : Type 0} → Option (Connection I) → Bool
 is_shut None = false
 is_shut (Some known) = is_closed known
@@ -71,15 +71,15 @@ is_shut (Some known) = is_closed known
 abbrev pub closing : ℕ → Bool → List HubOut
 closing c closed = if closed then Closed c ∷ [] else []
 
--- what tells that the event's connection was closed in it
+-- The output that says that the event closed its connection.
 abbrev pub closings : {I : Type 0} → Event → Connections I → Connections I → List HubOut
 closings (Ask viewer method path query body) before after = []
 closings (Begin c) before after = []
 closings (Piece c bytes) before after = closing c (not (is_shut (before c)) && is_shut (after c))
 closings (Finish c) before after = []
 
--- an entry's answer beside what the handler was asked and sent, whose relation is `told`: it isn't
--- asked where memory ran out
+-- An entry's answer agrees with what the handler was asked and sent, which `told` relates. The
+-- handler isn't asked if memory ran out.
 abbrev pub IsEntryAnswered : {I A H : Type 0} → Hearing I A → (H → ℕ → Heard → Sent → H → A
     → Type 0) → A
     → ℕ → Subject I → A → Sent → H → H → Type 0
@@ -92,8 +92,8 @@ IsEntryAnswered h told memory c broken answer sent before after = (after ≡ bef
     ≡ memory)
     × (sent ≡ fixed_500)
 
--- the entries beside the replies that were put out: one for each, in their order, under its
--- connection's number
+-- The entries agree with the replies that were put out: one reply for each entry, in order, with
+-- the number of its connection.
 abbrev pub AreEntriesAnswered : {I A H : Type 0} → Hearing I A → (H → ℕ → Heard → Sent → H → A
     → Type 0)
     → A → H → List (Entry I A) → List HubOut → H → Type 0
@@ -104,19 +104,20 @@ AreEntriesAnswered {H = H} h told memory before (entry ∷ log) outs after =
     × IsEntryAnswered h told memory c entry.subject entry.answer sent before between
     × AreEntriesAnswered h told memory between log rest after
 
--- what is sent to a request agrees with the answer: it closes where that does
+-- What is sent for a request agrees with the answer: it closes the connection exactly if the answer
+-- does.
 abbrev pub AgreesSent : {I A : Type 0} → Hearing I A → Heard → Sent → A → Type 0
 AgreesSent h (HeardWhole request) sent answer = sent_closes sent ≡ h.ends answer
 AgreesSent h (HeardRefused status) sent answer = Unit {0}
 
--- want of memory at a Begin: it is the one event that a hub may not take
+-- Memory ran out at a `Begin`. This is the only event that a hub may lose.
 abbrev pub IsLost : Event → Result (Unit {0}) HubFault → Type 0
 IsLost (Ask viewer method path query body) result = ⊥
 IsLost (Begin c) result = result ≡ Err Memory
 IsLost (Piece c bytes) result = ⊥
 IsLost (Finish c) result = ⊥
 
--- what an event and the calls of `next` after it gave is what the definition brings
+-- What is put out after an event, until `next` returns none, is what the definition brings.
 pub record IsBrought {I A H : Type 0} (h : Hearing I A) (told : H → ℕ → Heard → Sent → H → A
     → Type 0) (memory : A) (n : ℕ) (event : Event)
     (known : Connections I) (outs : List HubOut) (new : HubSeen) (before after : H) : Type 0 where
@@ -128,8 +129,8 @@ pub record IsBrought {I A H : Type 0} (h : Hearing I A) (told : H → ℕ → He
   pub like : AreLike h new.channels (after_both h event mine known)
   pub idle : new.turn ≡ Idle
 
--- what an event and some calls of `next` after it gave is the beginning of that; where a
--- connection was told to be closed, it is all
+-- What some calls of `next` put out after an event is the beginning of what the definition brings.
+-- If they put out that a connection is closed, it is all.
 pub record IsServedInPart {I A H : Type 0} (h : Hearing I A) (told : H → ℕ → Heard → Sent → H → A
     → Type 0) (memory : A) (n : ℕ) (event : Event)
     (known : Connections I) (outs : List HubOut) (before after : H) : Type 0 where
@@ -140,8 +141,8 @@ pub record IsServedInPart {I A H : Type 0} (h : Hearing I A) (told : H → ℕ �
   pub put : (outs ≡ replies) ⊎ (IsBroughtBy h n event known mine
       × (outs ≡ replies ++ closings event known (after_both h event mine known)))
 
--- events one after another, each taken by `step`, after which `next` is called until it gives
--- nothing
+-- Events one after another. `step` takes each of them, and then `next` is called until it returns
+-- none.
 abbrev pub RunsHub : {H : Type 0} → (List ℕ → Taken → Type 0) → (H → ℕ → Heard → Sent → H → Type 0)
     → HubSeen → List Event → List HubOut → HubSeen → H → H → Type 0
 RunsHub reads handles hub [] outs new before after = (outs ≡ []) × (new ≡ hub) × (after ≡ before)
@@ -152,7 +153,7 @@ RunsHub {H = H} reads handles hub (event ∷ events) outs new before after =
     × IsEmptied reads handles stepped mine later before between
     × (outs ≡ mine ++ rest) × RunsHub reads handles later events rest new between after
 
--- the events, of which the first is the n-th, bring the log, and this was put out for it
+-- The events, numbered from n, bring the log, and this was put out for it.
 abbrev pub AreServed : {I A H : Type 0} → Hearing I A → (H → ℕ → Heard → Sent → H → A → Type 0) → A
     → Connections I → ℕ → List Event → List (Entry I A) → List HubOut → H → H → Type 0
 AreServed h told memory known n [] log outs before after = (log ≡ []) × (outs ≡ [])
@@ -167,7 +168,8 @@ AreServed {I = I} {A = A} {H = H} h told memory known n (event ∷ events) log o
     × AreServed h told memory (after_both h event mine known) (n + 1) events others rest between
     after
 
--- a request that is understood as itself, and an answer that is what is sent
+-- The request of an `ask` line, for the plain hearing: a request is understood as itself, and its
+-- answer is what is sent.
 abbrev pub asked_request : Option ℕ → List ℕ → List ℕ → List ℕ → List ℕ → Request
 asked_request viewer method path query body = record {
   method = method;

@@ -21,7 +21,7 @@ pub enum Given {
     Closed,
 }
 
-/// The bytes of one connection. Those that requests used are dropped once they are the half.
+/// The bytes of one connection. Bytes that requests used are dropped when they are more than half.
 #[derive(Drop)]
 pub struct Channel {
     bytes: Vec<u8>,
@@ -65,7 +65,7 @@ impl Channel {
         self.closed = true;
     }
 
-    /// Takes a piece, as far as it counts.
+    /// Takes those bytes of a piece that still count.
     pub fn piece(&mut self, bytes: &[u8]) -> Result<(), Memory>
         ensures ok { OnOk result (self.new ≡ channel_with bytes.now self.old) }
         ensures err { OnErr result (self.new ≡ self.old) }
@@ -96,7 +96,7 @@ impl Channel {
         &self.bytes[self.used..]
     }
 
-    /// The next thing that the bytes give.
+    /// The next reply, or that the connection is closed, or none.
     pub fn next<H: Handler>(&mut self, alloc: Global, conn: u32, handler: &mut H) -> Option<Given>
         requires { H.ready handler.old }
         ensures next { NextOfChannel IsTaken H.handles conn self.old result self.new handler.old
@@ -147,7 +147,7 @@ impl Channel {
         Given::Reply(sent)
     }
 
-    /// Want of memory ends the connection.
+    /// Memory ran out: gives the fixed reply, and closes the connection.
     fn fail(&mut self) -> Given
         ensures nearer { IsNearer self.old (Some result) self.new }
         ensures given { result ≡ reply fixed_500 }
@@ -180,14 +180,14 @@ fn ask<H: Handler>(conn: u32, heard: Heard, handler: &mut H) -> Sent
     handler.handle(conn, &heard)
 }
 
-// The connection ends after the reply.
+// Whether the connection is closed after the reply.
 fn ends(close: bool, sent: &Sent) -> bool
     ensures { result ≡ (close || sent_closes sent.now) }
 {
     close || closes(sent)
 }
 
-// What stands at the front of the bytes.
+// What is at the front of the bytes.
 fn front(alloc: Global, bytes: &[u8]) -> Result<Taken, Memory>
     ensures read { IfOk result (λ taken. IsTaken bytes.now taken) }
     ensures sound { IfOk result (λ taken. IsSoundAnswer bytes.now taken) }
@@ -196,7 +196,7 @@ fn front(alloc: Global, bytes: &[u8]) -> Result<Taken, Memory>
     take_request(alloc, bytes)
 }
 
-// What still counts of the bytes, where so many were taken.
+// The bytes that still count, if this many were taken before.
 #[tactic(auto, unfolding(crate::specs::Channel::LIMIT))]
 fn counted(bytes: &[u8], taken: usize) -> &[u8]
     ensures new { result.now ≡ take (LIMIT - taken) bytes.now }

@@ -6,7 +6,7 @@ ghost use Rattle.jac_hub.specs.declared.sent.Sent.{Sent as SentSeen};
 use crate::Sent;
 use jac_http::Request;
 
-/// What is heard of a connection.
+/// What is heard from a connection.
 #[derive(Drop)]
 pub enum Heard {
     Whole(Request),
@@ -14,13 +14,13 @@ pub enum Heard {
     Refused(u16),
 }
 
-/// Who answers what is heard.
+/// Answers what is heard from connections.
 pub trait Handler {
-    /// What it asks of itself.
+    /// The condition for a call.
     ghost ready: { Self → Type 0 };
 
-    /// Itself before a call, the connection, what was heard, what it sent, and itself after the
-    /// call.
+    /// Relates the handler before a call, the connection, what was heard, what was sent, and the
+    /// handler after the call.
     ghost handles: { Self → ℕ → HeardSeen → SentSeen → Self → Type 0 };
 
     /// The answer to what was heard.

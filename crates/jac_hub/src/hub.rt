@@ -18,7 +18,7 @@ pub enum HubFault {
     NotOpen(u32),
     /// The connection has begun already.
     AlreadyOpen(u32),
-    /// A growth was refused.
+    /// Out of memory.
     Memory,
 }
 
@@ -29,22 +29,22 @@ pub enum HubOut {
     Closed { conn: u32 },
 }
 
-/// What is to come of the last event.
+/// What is still to come for the last event.
 #[derive(Clone, Copy)]
 enum Turn {
     /// Nothing: the next event may come.
     Idle,
-    /// What the connection's bytes bring.
+    /// The replies to the connection's bytes.
     Serving(u32),
-    /// That memory ran out for the connection.
+    /// The reply for a connection that ran out of memory.
     Breaking(u32),
     /// That the connection is closed.
     Closing(u32),
-    /// That nothing more comes.
+    /// None, which says that nothing more comes.
     Done,
 }
 
-/// The connections that have begun, and what is to come of the last event.
+/// The connections that have begun, and what is still to come for the last event.
 #[derive(Drop)]
 pub struct Hub {
     channels: BTreeMap<u32, Channel>,
@@ -61,7 +61,7 @@ impl Hub {
         }
     }
 
-    /// Takes an event. What it brings is asked by `next`, until that answers none.
+    /// Takes an event. `next` then returns what it brings, until it returns none.
     pub fn step(&mut self, alloc: Global, event: &Event) -> Result<(), HubFault>
         requires idle { (hub_seen self.old).turn ≡ Idle }
         requires connection { IsOfConnection event.now }
@@ -128,8 +128,8 @@ impl Hub {
         }
     }
 
-    /// The next thing that the last event brings: one reply for each request and for what is
-    /// refused, in their order, then that the connection is closed, then none.
+    /// The next output for the last event: one reply for each request and each refusal, in order,
+    /// then that the connection is closed, if it is, then none.
     pub fn next<H: Handler>(&mut self, alloc: Global, handler: &mut H) -> Option<HubOut>
         requires { H.ready handler.old }
         ensures next { Nexts IsTaken H.handles (hub_seen self.old) (hub_seen self.old).turn result

@@ -17,9 +17,9 @@ ghost use Rattle.jac_hub.specs.Served.{AreLike, IsEmptied, IsGiven, IsLost, IsBr
 use crate::Handler;
 use jac_http::requests_are_read;
 
-/// A law: a hub that stands where the definition of what is heard does gives for an event exactly
-/// what that brings, and stands there again after it. Want of memory at a Begin is the one event
-/// that it may lose.
+/// A law: if a hub agrees with the definition of what is heard, it puts out for an event exactly
+/// what the definition brings, and agrees with it afterwards. The only event that it may lose is a
+/// `Begin` for which memory ran out.
 pub fn events_are_heard<H: Handler>()
     ensures { (n : ℕ) (event : Event) (known : Connections Request) (result : Result (Unit {0})
         HubFault) (old stepped new : HubSeen) (outs : List HubOut) (before after : H)
@@ -31,8 +31,8 @@ pub fn events_are_heard<H: Handler>()
     requests_are_read();
 }
 
-/// A law: what a new hub gives for a run of events is a log that the definition brings, with one
-/// reply for each of its entries, in their order.
+/// A law: what a new hub puts out for a run of events answers a log that the definition brings,
+/// with one reply for each of its entries, in order.
 pub fn runs_are_heard<H: Handler>()
     ensures { (events : List Event) (outs : List HubOut) (new : HubSeen) (before after : H)
         → RunsHub IsTaken H.handles new_hub events outs new before after
@@ -43,7 +43,8 @@ pub fn runs_are_heard<H: Handler>()
     requests_are_read();
 }
 
-/// A law: before `next` answers none, what the hub gave is the beginning of what the event brings.
+/// A law: before `next` returns none, what the hub has put out is the beginning of what the event
+/// brings.
 pub fn events_are_heard_in_part<H: Handler>()
     ensures { (n : ℕ) (event : Event) (known : Connections Request) (result : Result (Unit {0})
         HubFault) (old stepped new : HubSeen) (outs : List HubOut) (before after : H)
@@ -54,8 +55,8 @@ pub fn events_are_heard_in_part<H: Handler>()
     requests_are_read();
 }
 
-/// A law: two pieces in a row of one connection bring what the one piece of both brings, wherever
-/// they stand. So bytes may be cut anywhere.
+/// A law: two pieces in a row of one connection bring what the joined piece brings, wherever they
+/// are among the events. So bytes may be cut anywhere.
 pub fn any_cutting_is_heard()
     ensures { (c : ℕ) (xs ys : List ℕ) (front events : List Event) (log : List (Entry Request Sent))
         → IsHeard plain_hearing (front ++ Piece c xs ∷ (Piece c ys ∷ events)) log

@@ -1,4 +1,5 @@
-//! Connections: what their bytes bring, under any interleaving and any cutting.
+//! Joins the pieces of interleaved connections into requests. How the bytes were cut changes
+//! nothing.
 #![tactic(auto)]
 
 mod channel;

@@ -7,13 +7,13 @@ use jac_value::{Bytes, Id};
 /// What is sent for what was heard.
 #[derive(Drop)]
 pub enum Sent {
-    /// A reply that was made, and its audit line; and whether its connection ends after it.
+    /// A reply that was made, its audit line, and whether the connection is closed after it.
     Made {
         line: Bytes,
         audit: Bytes,
         close: bool,
     },
-    /// A reply that stands ready, after which its connection ends.
+    /// A constant reply, after which the connection is closed.
     Still {
         status: Fixed,
         head: bool,
@@ -21,7 +21,7 @@ pub enum Sent {
     },
 }
 
-/// The connection ends after what was sent.
+/// Whether the connection is closed after what was sent.
 pub fn closes(sent: &Sent) -> bool
     ensures { result ≡ sent_closes sent.now }
 {
@@ -31,7 +31,7 @@ pub fn closes(sent: &Sent) -> bool
     }
 }
 
-/// The reply for want of memory.
+/// The reply when memory runs out.
 pub fn fixed_500() -> Sent
     ensures { result ≡ fixed_500 }
 {
