@@ -1,4 +1,4 @@
--- The pairs of a map after a change at one value.
+-- The pairs of a map after the ids of one value change.
 use Rattle.std.proofs.Common.{◌≡◌, ◌∙◌, refl, sym, ap, ℕ, ◌==◌, Bool, true, false, not, ◌&&◌, ◌||◌, List}
 use Rattle.std.specs.Prelude.{Option, Some, None, Result, Ok, Err, OnOk, OnErr}
 use Rattle.std.specs.Ordering.{is_eq}
@@ -22,7 +22,7 @@ equal u v e = one_value u v e
 abbrev Ids : Type 0
 Ids = Value → Option (List ℕ)
 
--- one value's ids were set
+-- The ids of one value are set.
 abbrev pub SetAt : Value → List ℕ → Ids → Ids → Type 0
 SetAt v ys f g = (u : Value) → g u ≡ cond (is_eq (order.ghosts.cmp v u)) (Some ys) (f u)
 
@@ -66,7 +66,7 @@ pub on_err : (r : Result (Unit {0}) Memory) (P Q : Type 0) → (P → Q) → OnE
 on_err (Ok x) P Q f p = tt
 on_err (Err e) P Q f p = f p
 
--- a value without ids
+-- A value without ids.
 pub pair_none : (v : Value) (id : ℕ) (f g : Ids) → g ≡ f → f v ≡ None → (u : Value) (k : ℕ) → shown_by (ids_or_none (g u)) k ≡ (not (is_same_value v u && (id == k)) && shown_by (ids_or_none (f u)) k)
 pair_none v id f g same none u k = ap (λ (h : Ids). shown_by (ids_or_none (h u)) k) same ∙ by_case (is_same_value v u) refl
   where
@@ -80,7 +80,7 @@ pair_none v id f g same none u k = ap (λ (h : Ids). shown_by (ids_or_none (h u)
         no false = refl
     by_case false e = refl
 
--- a value that has no ids is gone
+-- The entry of a value without ids is removed.
 pub pair_closed : (v : Value) (f g : Ids) → ((u : Value) → g u ≡ cond (is_eq (order.ghosts.cmp v u)) None (f u)) → ((k : ℕ) → shown_by (ids_or_none (f v)) k ≡ false)
     → (u : Value) (k : ℕ) → shown_by (ids_or_none (g u)) k ≡ shown_by (ids_or_none (f u)) k
 pair_closed v f g gone none u k = by_case (is_same_value v u) refl

@@ -8,7 +8,7 @@ use jac_value::{Id, Ids, Memory, Value};
 use std::alloc::Global;
 use std::collections::BTreeMap;
 
-/// The records that have a value, by the value.
+/// An index of one field: the ids of records by the value of the field.
 #[derive(Debug, Drop)]
 pub struct ByValue {
     ids: BTreeMap<Value, RisingIds>,
@@ -23,7 +23,7 @@ impl ByValue {
         }
     }
 
-    /// The same pairs and this one.
+    /// Adds the record under the value.
     pub fn add(&mut self, alloc: Global, value: &Value, id: Id) -> Result<(), Memory>
         ensures added { OnOk result (IsPairAdded value.now id self.old self.new) }
         ensures kept { OnErr result ((v : Cell) (k : ℕ) → has_index_pair self.new v k
@@ -63,7 +63,8 @@ impl ByValue {
         Ok(())
     }
 
-    /// The same pairs but this one. A value that no record has any longer is gone. Takes no memory.
+    /// Removes the record under the value. A value without records is removed too. It takes no
+    /// memory.
     pub fn remove(&mut self, value: &Value, id: Id)
         ensures { IsPairRemoved value.now id self.old self.new }
     {
@@ -72,7 +73,8 @@ impl ByValue {
         }
     }
 
-    // The same pairs but this one, and whether no record has the value any longer.
+    // Removes the record under the value. The result is true if the value has an entry without
+    // records.
     fn remove_id(&mut self, value: &Value, id: Id) -> bool
         ensures removed { IsPairRemoved value.now id self.old self.new }
         ensures none { IsTrue result → (k : ℕ) → has_index_pair self.new value.now k ≡ false }
@@ -86,7 +88,7 @@ impl ByValue {
         }
     }
 
-    // The same pairs, without the entry of a value that no record has.
+    // Removes the entry of a value without records.
     fn close(&mut self, value: &Value)
         requires { (k : ℕ) → has_index_pair self.old value.now k ≡ false }
         ensures { (v : Cell) (k : ℕ) → has_index_pair self.new v k ≡ has_index_pair self.old v k }
@@ -94,7 +96,7 @@ impl ByValue {
         let _ = self.ids.remove(value);
     }
 
-    /// The records that have the value, by rising id, each once.
+    /// The records under the value, by rising id, each once.
     pub fn find(&self, alloc: Global, value: &Value) -> Result<Ids, Memory>
         ensures found { IfOk result (λ ids. (k : ℕ) → shown_by ids k
             ≡ has_index_pair self.now value.now k) }

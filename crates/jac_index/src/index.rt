@@ -8,7 +8,8 @@ use jac_value::{Id, Ids, Memory, Value};
 use std::alloc::Global;
 use std::collections::BTreeMap;
 
-/// Triples of a field, a value and a record that has it there.
+/// An index of the fields of records: triples of a field, a value and the id of a record that has
+/// the value in the field.
 #[derive(Debug, Drop)]
 pub struct Index {
     fields: BTreeMap<u8, ByValue>,
@@ -23,7 +24,7 @@ impl Index {
         }
     }
 
-    /// The same triples and this one.
+    /// Adds the triple.
     pub fn add(&mut self, alloc: Global, field: u8, value: &Value, id: Id) -> Result<(), Memory>
         ensures added { OnOk result (IsAdded field value.now id self.old self.new) }
         ensures kept { OnErr result (AreSame self.old self.new) }
@@ -32,7 +33,7 @@ impl Index {
         self.add_in(alloc, field, value, id)
     }
 
-    // The same triples, with a place for the field.
+    // Makes an entry for the field, unless there is one.
     fn open(&mut self, alloc: Global, field: u8) -> Result<(), Memory>
         ensures same { AreSame self.old self.new }
         ensures opened { OnOk result (HasField field self.new) }
@@ -55,7 +56,7 @@ impl Index {
         }
     }
 
-    /// The same triples but this one. Takes no memory.
+    /// Removes the triple. It takes no memory.
     pub fn remove(&mut self, field: u8, value: &Value, id: Id)
         ensures { IsRemoved field value.now id self.old self.new }
     {
@@ -64,7 +65,7 @@ impl Index {
         }
     }
 
-    /// The records that have the value at the field, by rising id, each once.
+    /// The records that have the value in the field, by rising id, each once.
     pub fn find(&self, alloc: Global, field: u8, value: &Value) -> Result<Ids, Memory>
         ensures found { IfOk result (λ ids. (k : ℕ) → shown_by ids k ≡ has_triple self.now field
             value.now k) }

@@ -1,4 +1,4 @@
-//! Ids by rising number, each once: searched by bisection, and changed in place.
+//! A set of ids in rising order. It is searched by bisection, and changed in place.
 ghost use Rattle.std.specs.Prelude.{◌≡◌, ◌==◌, ◌||◌, ◌&&◌, not, ℕ, [], false, OnOk, OnErr, IsTrue};
 ghost use Rattle.jac_world.specs.World.{shown_by, IsAscending};
 
@@ -6,7 +6,7 @@ use jac_value::{Id, Memory};
 use std::alloc::Global;
 use std::marker::Model;
 
-/// Ids by rising number, each once.
+/// A set of ids in rising order.
 #[derive(Debug, Drop)]
 pub struct RisingIds {
     ids: Vec<Id>,
@@ -51,7 +51,7 @@ impl RisingIds {
         is_among(self.as_slice(), id)
     }
 
-    /// The same ids and this one.
+    /// Adds the id, unless it is there.
     pub fn add(&mut self, id: Id) -> Result<(), Memory>
         ensures added { OnOk result ((k : ℕ) → shown_by self.new k ≡ (id == k
             || shown_by self.old k)) }
@@ -60,7 +60,7 @@ impl RisingIds {
         add_id(&mut self.ids, id)
     }
 
-    /// The same ids but this one. Takes no memory.
+    /// Removes the id, if it is there. It takes no memory.
     pub fn remove(&mut self, id: Id)
         ensures { (k : ℕ) → shown_by self.new k ≡ (not (id == k) && shown_by self.old k) }
     {
