@@ -12,8 +12,8 @@ ghost use Rattle.jac_plain.specs.Expressions.{kept_by, tuples_from, mean};
 ghost use Rattle.jac_value.specs.declared.value.Value.{Value as Seen};
 ghost use Rattle.jac_index_choice.specs.Cut.{tuples_where, Covers};
 
-/// A law: binders that are cut to records among which is each one of a tuple at which the condition
-/// is true leave the same tuples.
+/// A law: if each record of a tuple for which the condition is true passes the test, a query over
+/// the records that pass has the same tuples.
 pub fn narrower()
     ensures { (w : World) (bs : List Binder) (cond : List Binding → Seen) (env : List Binding)
         (test : List ℕ → ℕ → Bool) → Covers w bs cond env test
@@ -21,8 +21,8 @@ pub fn narrower()
         (tuples_from w bs ([] ∷ [])) }
 {}
 
-/// A law: a query whose binder, at any place, is given the records that are found for the tuple
-/// before it by what the condition asks has the same tuples.
+/// A law: a query has the same tuples if one of its binders is given only the records that the
+/// predicate finds for the tuple before it.
 pub fn found_at()
     ensures { (w : World) (u : ℕ → Bool) (tables : List (List Row)) (done : List Binder)
         (b : Binder) (later : List Binder) (c : Expression) (q : EqualityPredicate)

@@ -1,6 +1,4 @@
-//! Records found by a value: which operand of a condition asks that a field of a binder's record
-//! equal an expression that the binders don't change, and the laws that a query whose binders are
-//! cut to such records has the same tuples.
+//! Chooses which value in a query's condition an index looks up. The answers stay the same.
 #![tactic(auto)]
 
 mod laws;
