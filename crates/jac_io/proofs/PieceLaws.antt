@@ -1,4 +1,4 @@
--- What passing over empty pieces, and cutting the first one, leave of the input.
+-- What is left of the input after empty pieces are passed over, and after the first piece is cut.
 use Rattle.std.proofs.Common.{◌≡◌, ℕ, ◌+◌, ◌<◌, true, false, List, [], ◌∷◌, ◌++◌, length, take, drop, min, refl, sym, ◌∙◌, ap, arith, zero, suc}
 use Rattle.std.proofs.lemmas.Grind.{common_steps}
 use Rattle.std.proofs.lemmas.List.{take-append-drop, drop-drop, drop_min}
@@ -9,7 +9,7 @@ pub cut_none : (ps : List (List ℕ)) → cut 0 ps ≡ ps
 cut_none [] = refl
 cut_none (p ∷ ps) = refl
 
--- after the first piece nothing is cut
+-- Only the first piece is cut.
 pub cut_behind : (n : ℕ) (ps : List (List ℕ)) → cut 0 (drop 1 ps) ≡ drop 1 (cut n ps)
 cut_behind n [] = refl
 cut_behind n (p ∷ ps) = cut_none ps
@@ -43,7 +43,7 @@ empty_front n ([] ∷ ps) some h = empty_front n ps some h
 empty_front zero ((b ∷ bs) ∷ ps) some h = absurd (omega (arith, some))
 empty_front (suc n) ((b ∷ bs) ∷ ps) some h = cc
 
--- what is cut again is cut by the lesser of a number and what is left
+-- A second cut goes on where the first ended. The second number may be more than what is left.
 pub cut_again : (m n : ℕ) (ps : List (List ℕ)) → cut (m + min (length (first_piece (cut m ps))) n) ps ≡ cut n (cut m ps)
 cut_again m n [] = refl
 cut_again m n (p ∷ ps) =

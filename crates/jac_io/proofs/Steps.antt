@@ -1,4 +1,4 @@
--- the steps that the walks of manual proofs take
+-- The steps that manual proofs use.
 pub use Rattle.std.proofs.Common.{List, [], ◌∷◌, refl}
 pub use Rattle.std.proofs.raw_atomic.Walks.{proved}
 pub use base.Fml.{ftrue}

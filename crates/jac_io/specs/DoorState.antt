@@ -1,13 +1,13 @@
--- a door in memory, as contracts see it
+-- A door in memory, as contracts see it.
 use Rattle.std.specs.Prelude.{ℕ, List, [], ◌∷◌, ◌++◌, length, drop, Bool, true, ◌||◌, Option, Some, if◌then◌else◌, nat_le}
 use Rattle.jac_io.specs.Faults.{one_more_fault}
 use Rattle.jac_io.specs.Calls.{is_listed}
 use Rattle.jac_io.specs.Linked.{DoorSeen}
 use Rattle.jac_io.specs.LinkState.{LinkState}
 
--- the links that are still to come, the port of the last listen that was answered, the links that
--- were handed back and the room for them, the calls that are to fail, and how many calls there were
--- and how many failed
+-- The links still to come; the port of the last successful listen; the links handed back, and the
+-- room for them; the numbers of the calls that fail; the count of calls, and the count of those
+-- that failed.
 pub record DoorState : Type 0 where
   pub coming : List LinkState
   pub port : Option ℕ
@@ -17,33 +17,33 @@ pub record DoorState : Type 0 where
   pub calls : ℕ
   pub faults : ℕ
 
--- whether the next call fails for being listed
+-- Whether the next call fails because its number is listed.
 abbrev pub call_fails : DoorState → Bool
 call_fails s = is_listed (one_more_fault s.calls) s.fails
 
--- whether handing a link back fails: it is a listed call, or there is no room left
+-- Whether the next close fails: its number is listed, or there is no room left.
 abbrev pub close_fails : DoorState → Bool
 close_fails s = call_fails s || nat_le s.room (length s.returned)
 
--- what a call on a door leaves that fails
+-- The door after a call that fails.
 abbrev pub failed_door : DoorState → DoorState
 failed_door s = record s { calls = one_more_fault s.calls; faults = one_more_fault s.faults }
 
--- what the next listen leaves
+-- The door after the next `listen`.
 abbrev pub after_listen : DoorState → ℕ → DoorState
 after_listen s port = if call_fails s then failed_door s else record s {
   calls = one_more_fault s.calls;
   port = Some port;
 }
 
--- what asking for the next link leaves
+-- The door after the next `next`.
 abbrev pub after_next : DoorState → DoorState
 after_next s = if call_fails s then failed_door s else record s {
   calls = one_more_fault s.calls;
   coming = drop 1 s.coming;
 }
 
--- what handing a link back leaves
+-- The door after the next `close`, which hands this link back.
 abbrev pub after_close : DoorState → LinkState → DoorState
 after_close s line =
     if close_fails s then failed_door s else record s {
@@ -52,7 +52,7 @@ after_close s line =
           ++ line ∷ [];
     }
 
--- it tells what it holds
+-- What contracts see of the door. Its contents are known.
 abbrev pub seen_door : DoorState → DoorSeen LinkState
 seen_door s = record {
   tells = true;

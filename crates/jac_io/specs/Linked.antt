@@ -1,28 +1,27 @@
 -- What contracts see of connections and listening sockets, and how calls change it. A link is one
 -- connection: bytes are taken from it and written to it. A door gives a link for each connection
 -- that arrives.
--- ways: bytes are taken from it and put on it. A door gives links, one for each connection that
--- came.
 use Rattle.std.specs.Prelude.{◌≡◌, ◌≤◌, ◌++◌, ◌∷◌, [], ℕ, Bool, List, Option, Some, None, Result, IfOk, OnOk, OnErr, IsTrue, length, take}
 use Rattle.jac_io.specs.Faults.{Rose}
 use Rattle.jac_io.specs.Put.{AddsPrefix}
 use Rattle.jac_io.specs.declared.sink.Failed.{Failed as Refused}
 
--- of a link: whether it tells, the input that wasn't taken yet, the bytes that were put, and how
--- often it failed
+-- What contracts see of a link: whether its contents are known, the input that wasn't taken yet,
+-- the bytes that were put, and the count of its faults.
 pub record LinkSeen : Type 0 where
   pub tells : Bool
   pub left : List ℕ
   pub held : List ℕ
   pub faults : ℕ
 
--- a link after any calls: its count doesn't fall, and where it tells afterwards it told before
+-- Any calls on a link: its count of faults doesn't fall. If its contents are known afterwards, they
+-- were known before.
 pub record LinkLasts (old new : LinkSeen) : Type 0 where
   pub later : old.faults ≤ new.faults
   pub told : IsTrue new.tells → IsTrue old.tells
 
--- what a take leaves, which wrote `into`: the next bytes of the input are its front, and none only
--- at the end
+-- A take, which wrote to `into`. The bytes it gives are the next bytes of the input. It gives no
+-- bytes only at the end of the input. If it fails, no byte is taken.
 pub record Takes (old new : LinkSeen) (into : List ℕ) (result : Result ℕ Refused) : Type 0 where
   pub lasts : LinkLasts old new
   pub same_held : IsTrue new.tells → new.held ≡ old.held
@@ -32,7 +31,7 @@ pub record Takes (old new : LinkSeen) (into : List ℕ) (result : Result ℕ Ref
   pub err : IsTrue new.tells → OnErr result (new.left ≡ old.left)
   pub rose : OnErr result (Rose old.faults new.faults)
 
--- what a put on a link leaves: all the bytes more, or the front of them
+-- A put on a link: it appends all the bytes, or a prefix of them if it fails.
 pub record PutsOn (old new : LinkSeen) (bytes : List ℕ) (result : Result (Unit {0}) Refused) : Type
     0 where
   pub lasts : LinkLasts old new
@@ -42,8 +41,9 @@ pub record PutsOn (old new : LinkSeen) (bytes : List ℕ) (result : Result (Unit
   pub err : IsTrue new.tells → OnErr result (AddsPrefix old.held new.held bytes)
   pub rose : OnErr result (Rose old.faults new.faults)
 
--- of a door whose links are L: whether it tells, the links that are still to come, the port of the
--- last listen that was answered, the links that were handed back, in order, and how often it failed
+-- What contracts see of a door with links of type L: whether its contents are known, the links
+-- still to come, the port of the last successful listen, the links handed back, in order, and the
+-- count of its faults.
 pub record DoorSeen (L : Type 0) : Type 0 where
   pub tells : Bool
   pub coming : List L
@@ -51,12 +51,13 @@ pub record DoorSeen (L : Type 0) : Type 0 where
   pub returned : List L
   pub faults : ℕ
 
--- a door after any calls: its count doesn't fall, and where it tells afterwards it told before
+-- Any calls on a door: its count of faults doesn't fall. If its contents are known afterwards, they
+-- were known before.
 pub record DoorLasts {L : Type 0} (old new : DoorSeen L) : Type 0 where
   pub later : old.faults ≤ new.faults
   pub told : IsTrue new.tells → IsTrue old.tells
 
--- what a listen leaves: it listens on the port, or where it did
+-- A listen: the door listens on this port. If it fails, the door listens where it did before.
 pub record Listens {L : Type 0} (old new : DoorSeen L) (port : ℕ) (result : Result (Unit {0})
     Refused) : Type 0 where
   pub lasts : DoorLasts old new
@@ -67,12 +68,13 @@ pub record Listens {L : Type 0} (old new : DoorSeen L) (port : ℕ) (result : Re
   pub err : IsTrue new.tells → OnErr result (new.port ≡ old.port)
   pub rose : OnErr result (Rose old.faults new.faults)
 
--- a link came, which was the first of those to come; or there was none
+-- The link is the first of those to come, and the others are left. If there is no link, none was to
+-- come.
 abbrev pub Comes : {L : Type 0} → List L → Option L → List L → Type 0
 Comes old (Some line) new = old ≡ line ∷ new
 Comes old None new = (old ≡ []) × (new ≡ [])
 
--- what asking for the next link leaves
+-- A call of `next`: if it succeeds, `Comes` holds; if it fails, the links to come are the same.
 pub record AsksNext {L : Type 0} (old new : DoorSeen L) (result : Result
     (Option L) Refused) : Type 0
   where
@@ -83,7 +85,7 @@ pub record AsksNext {L : Type 0} (old new : DoorSeen L) (result : Result
     pub err : IsTrue new.tells → OnErr result (new.coming ≡ old.coming)
     pub rose : OnErr result (Rose old.faults new.faults)
 
--- what handing a link back leaves
+-- A close: the link is the last of those handed back. If it fails, these are the same.
 pub record Returns {L : Type 0} (old new : DoorSeen L) (line : L) (result : Result (Unit {0})
     Refused) : Type 0 where
   pub lasts : DoorLasts old new

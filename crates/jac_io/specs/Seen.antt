@@ -6,21 +6,22 @@ use Rattle.jac_io.specs.declared.files.FileFault.{FileFault}
 use Rattle.jac_io.specs.declared.files.FileFault.TheVariants.{Failed, TooLong, Memory}
 use Rattle.jac_io.specs.declared.sink.Failed.{Failed as Refused}
 
--- of files: whether they tell what they hold, the bytes by name, how often they failed, and the
--- names that were asked for, in order, each as often as it was
+-- What contracts see of files: whether their contents are known, the bytes by name, the count of
+-- faults, and the name of each read, in order.
 pub record FilesSeen : Type 0 where
   pub tells : Bool
   pub file : List ℕ → Option (List ℕ)
   pub faults : ℕ
   pub asked : List (List ℕ)
 
--- files after some reads: where they tell afterwards they told before, and hold the same
+-- Any reads of files: if the contents are known afterwards, they were known before, and are the
+-- same.
 pub record FilesLast (old new : FilesSeen) : Type 0 where
   pub later : old.faults ≤ new.faults
   pub told : IsTrue new.tells → IsTrue old.tells
   pub same_file : IsTrue new.tells → new.file ≡ old.file
 
--- what a read of a whole file leaves
+-- A read of a whole file of at most `limit` bytes.
 pub record ReadsFile (old new : FilesSeen) (name : List ℕ) (limit : ℕ)
     (result : Result (List ℕ) FileFault) : Type 0 where
   pub lasts : FilesLast old new
@@ -32,22 +33,22 @@ pub record ReadsFile (old new : FilesSeen) (name : List ℕ) (limit : ℕ)
   pub rose : result ≡ Err Failed → Rose old.faults new.faults
   pub no_fault : result ≡ Err Memory → new.faults ≡ old.faults
 
--- of a sink: whether it tells what was put, the bytes, each aim with how much was held by then, and
--- how often it failed
+-- What contracts see of a sink: whether its contents are known, the bytes that were put, each aim
+-- with the number of bytes held at that time, and the count of faults.
 pub record SinkSeen : Type 0 where
   pub tells : Bool
   pub held : List ℕ
   pub aims : List (Option (List ℕ) × ℕ)
   pub faults : ℕ
 
--- a sink after calls that aim it nowhere: where it tells afterwards it told before, and its aims
--- are as they were
+-- Any calls on a sink other than `aim`: if its contents are known afterwards, they were known
+-- before. Its aims are the same.
 pub record Lasts (old new : SinkSeen) : Type 0 where
   pub later : old.faults ≤ new.faults
   pub told : IsTrue new.tells → IsTrue old.tells
   pub same_aims : IsTrue new.tells → new.aims ≡ old.aims
 
--- what a put leaves: all the bytes more, or the front of them
+-- A put: it appends all the bytes, or a prefix of them if it fails.
 pub record Puts (old new : SinkSeen) (bytes : List ℕ) (result : Result (Unit {0}) Refused) : Type 0
   where
     pub lasts : Lasts old new
@@ -56,8 +57,8 @@ pub record Puts (old new : SinkSeen) (bytes : List ℕ) (result : Result (Unit {
     pub err : IsTrue new.tells → OnErr result (AddsPrefix old.held new.held bytes)
     pub rose : OnErr result (Rose old.faults new.faults)
 
--- what an aim leaves: an Ok is the last of the aims, with what was held by then; a refused one
--- leaves them
+-- An aim: if it succeeds, it is the last of the aims, with the number of bytes held before it. If
+-- it fails, the aims are the same.
 pub record Aims (old new : SinkSeen) (name : Option (List ℕ)) (result : Result (Unit {0}) Refused) :
     Type 0 where
   pub later : old.faults ≤ new.faults

@@ -1,11 +1,12 @@
--- a sink in memory, as contracts see it
+-- A sink in memory, as contracts see it.
 use Rattle.std.specs.Prelude.{ℕ, List, [], ◌∷◌, ◌++◌, length, ◌+◌, Bool, true, ◌||◌, Option, if◌then◌else◌, nat_lt, nat_le}
 use Rattle.jac_io.specs.Faults.{one_more_fault}
 use Rattle.jac_io.specs.Calls.{is_listed}
 use Rattle.jac_io.specs.Seen.{SinkSeen}
 
--- the bytes that were put, each aim with how much was held by then, the room for all bytes and for
--- aims, the calls that are to fail, and how many calls there were and how many failed
+-- The bytes that were put; each aim with the number of bytes held at that time; the room for all
+-- bytes; the numbers of the calls that fail; the count of calls, and the count of those that
+-- failed.
 pub record SinkState : Type 0 where
   pub held : List ℕ
   pub aims : List (Option (List ℕ) × ℕ)
@@ -14,19 +15,20 @@ pub record SinkState : Type 0 where
   pub calls : ℕ
   pub faults : ℕ
 
--- whether the next call is to fail
+-- Whether the next call fails because its number is listed.
 abbrev pub is_to_fail : SinkState → Bool
 is_to_fail s = is_listed (one_more_fault s.calls) s.fails
 
--- whether the next put fails: it is a listed call, or the bytes are more than the rest of the room
+-- Whether the next put fails: its number is listed, or the bytes don't fit into the room that is
+-- left.
 abbrev pub put_fails : SinkState → List ℕ → Bool
 put_fails s bytes = is_to_fail s || nat_lt s.room (length s.held + length bytes)
 
--- what a call leaves that fails
+-- The sink after a call that fails.
 abbrev pub failed_sink : SinkState → SinkState
 failed_sink s = record s { calls = one_more_fault s.calls; faults = one_more_fault s.faults }
 
--- what the next put leaves
+-- The sink after the next put.
 abbrev pub after_put : SinkState → List ℕ → SinkState
 after_put s bytes =
     if put_fails s bytes then failed_sink s else record s {
@@ -34,15 +36,15 @@ after_put s bytes =
       held = s.held ++ bytes;
     }
 
--- how many aims a sink has room for
+-- The number of aims that a sink has room for.
 abbrev pub aims_room : ℕ
 aims_room = 8
 
--- whether the next aim fails: it is a listed call, or there were as many aims as there is room for
+-- Whether the next aim fails: its number is listed, or there is no room for another aim.
 abbrev pub aim_fails : SinkState → Bool
 aim_fails s = is_to_fail s || nat_le aims_room (length s.aims)
 
--- what the next aim leaves
+-- The sink after the next aim.
 abbrev pub after_aim : SinkState → Option (List ℕ) → SinkState
 after_aim s name =
     if aim_fails s then failed_sink s else record s {
@@ -50,6 +52,6 @@ after_aim s name =
       aims = s.aims ++ (name, length s.held) ∷ [];
     }
 
--- it tells what it holds
+-- What contracts see of the sink. Its contents are known.
 abbrev pub seen_sink : SinkState → SinkSeen
 seen_sink s = record { tells = true; held = s.held; aims = s.aims; faults = s.faults }

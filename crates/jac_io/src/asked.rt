@@ -1,11 +1,11 @@
-//! What files were asked for, for clauses alone.
+//! The names of the files that were asked for. Only contracts use them.
 ghost use Rattle.std.specs.Prelude.{◌≡◌, ℕ, List, [], ◌∷◌, ◌++◌};
 ghost use Rattle.std.specs.Borrow.{ftrue};
 
 use jac_value::Txt;
 use std::marker::Model;
 
-/// The names so far, in order. No memory holds them: it takes no bytes.
+/// The names so far, in order. They exist only in contracts, so that they take no memory.
 #[derive(Debug, Drop)]
 pub struct Asked {
     pub ghost names: { List (List ℕ) },
@@ -22,7 +22,7 @@ impl Asked {
         Asked {}
     }
 
-    /// With one name more.
+    /// The names with one more at the end.
     pub fn with(&self, name: &Txt) -> Asked
         ensures { result.names ≡ self.now.names ++ name.now ∷ [] }
     {

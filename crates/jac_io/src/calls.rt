@@ -5,7 +5,7 @@ use jac_value::Memory;
 use std::alloc::Global;
 use std::marker::Model;
 
-/// Numbers of calls, from 1: those that are to fail.
+/// The numbers of the calls that fail. The first call has the number 1.
 #[derive(Debug, Drop)]
 pub struct Calls {
     numbers: Vec<u64>,
@@ -53,7 +53,7 @@ impl Calls {
         Ok(Calls { numbers })
     }
 
-    /// Whether the call of this number is listed.
+    /// Whether the call of this number fails.
     pub fn lists(&self, number: u64) -> bool
         ensures { result ≡ is_listed number self.now }
     {

@@ -7,7 +7,7 @@ use std::alloc::Global;
 /// Why a file wasn't read.
 #[derive(Clone, Copy, Debug, PartialEq, Eq)]
 pub enum FileFault {
-    /// It isn't there, or the outside failed.
+    /// There is no such file, or it can't be read.
     Failed,
     /// It holds more bytes than the limit.
     TooLong,
@@ -27,10 +27,10 @@ impl From<Memory> for FileFault {
 
 /// A place where files are read by name.
 pub trait Files {
-    /// What contracts see of it. Its count of faults never falls, and stands still at 2^64 - 1.
+    /// What contracts see of it. Its count of faults never falls, and stops at 2^64 - 1.
     ghost seen: { Self → FilesSeen };
 
-    /// The whole file, if it holds at most `limit` bytes.
+    /// Reads the whole file, if it holds at most `limit` bytes.
     fn read_all(&mut self, alloc: Global, name: &Txt, limit: usize) -> Result<Bytes, FileFault>
         ensures { ReadsFile (seen self.old) (seen self.new) name.now limit result };
 }

@@ -1,5 +1,4 @@
-//! The outside: files, sinks and the audit's sink, links and their door, and versions of them in
-//! memory.
+//! Traits for files, outputs and sockets, with implementations in memory.
 #![tactic(auto)]
 
 mod asked;

@@ -5,11 +5,11 @@ use crate::Failed;
 
 /// A connection: bytes are taken from it and put on it.
 pub trait Link {
-    /// What contracts see of it. Its count of faults never falls, and stands still at 2^64 - 1.
+    /// What contracts see of it. Its count of faults never falls, and stops at 2^64 - 1.
     ghost seen: { Self → LinkSeen };
 
-    /// Writes the next bytes of the input to the front of `into`, and gives their number: 0 only at
-    /// its end. `Failed` takes none of them.
+    /// Writes the next bytes of the input to the front of `into`, and gives their number. It is 0
+    /// only at the end of the input. After `Failed` none of the input was taken.
     fn take(&mut self, into: &mut [u8]) -> Result<usize, Failed>
         requires { 0 < length into.old }
         ensures takes { Takes (seen self.old) (seen self.new) into.new result }
@@ -20,18 +20,18 @@ pub trait Link {
         ensures { PutsOn (seen self.old) (seen self.new) bytes.now result };
 }
 
-/// Where connections come in.
+/// A listening socket: it gives a link for each connection that arrives.
 pub trait Door {
     type Line: Link + Drop;
 
-    /// What contracts see of it. Its count of faults never falls, and stands still at 2^64 - 1.
+    /// What contracts see of it. Its count of faults never falls, and stops at 2^64 - 1.
     ghost seen: { Self → DoorSeen Self.Line };
 
-    /// Listens on this port from now on. After `Failed` it listens where it did.
+    /// Listens on this port. After `Failed` it listens where it did before.
     fn listen(&mut self, port: u16) -> Result<(), Failed>
         ensures { Listens (seen self.old) (seen self.new) port result };
 
-    /// Waits for the next connection; `None` where no more will come.
+    /// Waits for the next connection. `None` if no more will come.
     fn next(&mut self) -> Result<Option<Self::Line>, Failed>
         ensures { AsksNext (seen self.old) (seen self.new) result };
 

@@ -10,9 +10,8 @@ use std::marker::Model;
 /// Links in memory, in the order in which they come.
 pub type Links = List<MemoryLink>;
 
-/// A door in memory. A call fails where it is a listed one, and a close also where as many links
-/// were handed back as the door began with. Calls of `listen`, `next` and `close` are counted
-/// together.
+/// A door in memory. A call fails if its number is listed. A close also fails if as many links were
+/// handed back as the door began with. Calls of `listen`, `next` and `close` are counted together.
 #[derive(Debug, Drop)]
 pub struct MemoryDoor {
     coming: VecDeque<MemoryLink>,
@@ -36,8 +35,7 @@ impl Model for MemoryDoor {
 }
 
 impl MemoryDoor {
-    /// Takes the room for the links that are handed back at once, so that no later call takes
-    /// memory.
+    /// Allocates the room for the links that are handed back, so that no later call takes memory.
     pub fn new(alloc: Global, links: Links, fails: Calls) -> Result<MemoryDoor, Memory>
         ensures { IfOk result (λ d. d ≡ record {
           coming = links;

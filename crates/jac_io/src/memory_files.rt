@@ -7,7 +7,7 @@ use jac_value::{Bytes, Txt};
 use std::alloc::Global;
 use std::marker::Model;
 
-/// Files in memory. A read fails where it is a listed call, and where the file isn't there.
+/// Files in memory. A read fails if its number is listed, or if there is no file of this name.
 #[derive(Debug, Drop)]
 pub struct MemoryFiles {
     files: NamedFiles,

@@ -7,9 +7,9 @@ use jac_value::Memory;
 use std::alloc::Global;
 use std::marker::Model;
 
-/// A link in memory. A call fails where it is a listed one, and a put fails also where its bytes
-/// are more than the rest of the room. A take gives one piece, passing over empty ones, and of a
-/// piece that is longer than its slice the front. Calls of `take` and `put` are counted together.
+/// A link in memory. A call fails if its number is listed. A put also fails if its bytes don't fit
+/// into the room that is left. A take gives the first nonempty piece, or the front of it if the
+/// piece is longer than `into`. Calls of `take` and `put` are counted together.
 #[derive(Debug, Drop)]
 pub struct MemoryLink {
     input: Input,
@@ -32,7 +32,7 @@ impl Model for MemoryLink {
 }
 
 impl MemoryLink {
-    /// Takes the room at once, so that no later call takes memory.
+    /// Allocates the room at once, so that no later call takes memory.
     pub fn new(
         alloc: Global,
         pieces: Pieces,

@@ -8,9 +8,9 @@ use std::marker::Model;
 
 const AIMS: usize = 8;
 
-/// A sink in memory. A call fails where it is a listed one; a put fails also where its bytes are
-/// more than the rest of the room, and an aim where there were eight already. Calls of `put` and
-/// `aim` are counted together.
+/// A sink in memory. A call fails if its number is listed. A put also fails if its bytes don't fit
+/// into the room that is left, and an aim if there were eight already. Calls of `put` and `aim` are
+/// counted together.
 #[derive(Debug, Drop)]
 pub struct MemorySink {
     taken: Vec<u8>,
@@ -33,7 +33,7 @@ impl Model for MemorySink {
 }
 
 impl MemorySink {
-    /// Takes the room at once, so that no later call takes memory.
+    /// Allocates the room at once, so that no later call takes memory.
     pub fn new(alloc: Global, room: usize, fails: Calls) -> Result<MemorySink, Memory>
         ensures { IfOk result (λ s. s ≡ record {
           held = [];
@@ -63,7 +63,7 @@ impl MemorySink {
         self.taken.as_slice()
     }
 
-    /// Each aim that wasn't refused, with how many bytes had been put by then.
+    /// Each aim that succeeded, with the number of bytes that had been put by then.
     pub fn aims(&self) -> &[(Option<Txt>, usize)]
         ensures { result.now ≡ self.now.aims }
     {

@@ -6,7 +6,7 @@ use jac_value::{Bytes, Txt};
 use std::alloc::Global;
 use std::marker::Model;
 
-/// Files by their names. Of two files with one name the first is read.
+/// Files by their names. If two files have one name, the first is read.
 #[derive(Debug, Drop)]
 pub struct NamedFiles {
     files: Vec<(Txt, Bytes)>,
@@ -47,7 +47,7 @@ impl NamedFiles {
         self.files.as_slice()
     }
 
-    /// The bytes of the file of this name.
+    /// The bytes of the file of this name, if there is one.
     pub fn find(&self, name: &Txt) -> Option<&Bytes>
         ensures { option_copied result ≡ file_named self.now name.now }
     {

@@ -5,14 +5,14 @@ use jac_value::{Bytes, List};
 use std::collections::VecDeque;
 use std::marker::Model;
 
-/// What comes over a connection, a piece for each take.
+/// The input of a connection. A take gives bytes of one piece at most.
 pub type Pieces = List<Bytes>;
 
-// What wasn't taken yet.
+// The input that wasn't taken yet.
 #[derive(Debug, Drop)]
 pub(crate) struct Input {
     pieces: VecDeque<Bytes>,
-    // how much of the first piece was taken
+    // The number of bytes of the first piece that were taken.
     from: usize,
 }
 
@@ -53,7 +53,7 @@ impl Input {
         !self.pieces.is_empty() && self.rest().is_empty()
     }
 
-    // The first piece is let go, whatever is left of it.
+    // Drops the first piece and what is left of it.
     #[tactic(auto, using(crate::proofs::PieceLaws::cut_behind))]
     fn drop_first(&mut self)
         ensures { self.new ≡ drop 1 self.old }
@@ -71,8 +71,8 @@ impl Input {
         }
     }
 
-    // Gives the front of the first piece that isn't empty, and how many bytes that is: none only at
-    // the end.
+    // Writes the front of the first nonempty piece to `into`, and gives the number of bytes. It is
+    // 0 only if no input is left or `into` is empty.
     #[tactic(auto, using(crate::proofs::PieceLaws::cut_again))]
     pub(crate) fn take(&mut self, into: &mut [u8]) -> usize
         ensures left { self.new ≡ cut (length into.old) (from_next self.old) }

@@ -3,13 +3,13 @@ ghost use Rattle.jac_io.specs.Seen.{SinkSeen, Puts, Aims};
 
 use jac_value::Txt;
 
-/// The outside failed.
+/// A call on the outside failed.
 #[derive(Clone, Copy, Debug, PartialEq, Eq)]
 pub struct Failed;
 
-/// What bytes are put into.
+/// An output: bytes are put into it.
 pub trait Sink {
-    /// What contracts see of it. Its count of faults never falls, and stands still at 2^64 - 1.
+    /// What contracts see of it. Its count of faults never falls, and stops at 2^64 - 1.
     ghost seen: { Self → SinkSeen };
 
     /// Appends the bytes. After `Failed` a prefix of them was appended.
@@ -17,9 +17,10 @@ pub trait Sink {
         ensures { Puts (seen self.old) (seen self.new) bytes.now result };
 }
 
-/// The sink of the audit lines, which is told its file.
+/// The sink of the audit lines. `aim` gives it the file to write to.
 pub trait AuditSink: Sink {
-    /// Puts into the file of this name from now on. With no name the bytes go nowhere.
+    /// Bytes that are put after this go to the file of this name. Without a name they are
+    /// discarded.
     fn aim(&mut self, name: Option<Txt>) -> Result<(), Failed>
         ensures { Aims (Self.seen self.old) (Self.seen self.new) name result };
 }

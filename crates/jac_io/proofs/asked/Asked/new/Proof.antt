@@ -1,4 +1,4 @@
--- It has no bytes, so one of no names is made of nothing.
+-- An `Asked` has no bytes, so that nothing is written for one without names.
 use Rattle.jac_io.proofs.Steps.{[], ◌∷◌, refl, proved, ftrue, pure_i, nothing, Stays, walk_of, says, ends_at, vstruct, vnil, alloc_all, free_all, look_at, sets, pass_all, ‵, raw, ◌⊛◌, ◌$◌, ◌∵◌, !, qed, move, keep, split, suffices, done, agg, enter, returns, no_more, alive}
 use Rattle.jac_io.specs.contracts.asked.Asked.{the_row as R}
 use Rattle.jac_io.specs.contracts.asked.Asked.new as f

@@ -1,4 +1,4 @@
--- What comes has no bytes too, so it holds one name more.
+-- An `Asked` has no bytes, so that nothing is written for one with one more name.
 use Rattle.jac_io.proofs.Steps.{[], ◌∷◌, refl, proved, ftrue, RefOf, yes, owns, shr_vals, shr_Tells, pure_i, plain, types_at, nothing, alive, Stays, walk_of, says, stay_dropped, Goes-dropped, ends_at, named, vstruct, vnil, alloc_all, pass_all, free_all, look_at, sets, ‵, raw, ◌⊛◌, ◌$◌, ◌∵◌, !, qed, move, keep, split, fjoin, suffices, done, agg, enter, returns, no_more}
 use Rattle.std.proofs.Common.{◌++◌}
 use Rattle.jac_value.specs.contracts.text.Txt.{the_row as T}
