@@ -1,4 +1,4 @@
--- A pair of a row.
+-- Whether an index has a pair after a row is added or removed.
 use Rattle.std.proofs.Common.{◌≡◌, refl, Bool, true, false, ◌&&◌, ◌||◌}
 use Rattle.std.specs.Prelude.{Option, Some, None}
 use Rattle.jac_value.specs.declared.value.Value.{Value}

@@ -1,4 +1,4 @@
--- alterations of records: one more of them, a record and a table after them
+-- Alterations of records: adding one, and a record or a table after them.
 use Rattle.std.proofs.Common.{◌≡◌, ◌≢◌, ℕ, ◌+◌, ◌<◌, ◌≤◌, Bool, true, false, ◌==◌, if◌then◌else◌, List, [], ◌∷◌, ◌++◌, All, None, zero, suc, length, get_or, set, take, drop, drop-cons, unwrap_or, refl, sym, add-zero, zero-add, ◌⊎◌, inl, inr, ◌∙◌, ap, arith}
 use Rattle.std.proofs.lemmas.Bool.{cases_lt}
 use Rattle.std.proofs.lemmas.Option.{slice_get_past}
@@ -18,7 +18,7 @@ Rises rest = IsRisingBy (λ (a : Alteration). a.id) rest
 abbrev pub Above : ℕ → List Alteration → Type 0
 Above id rest = StartsAboveBy (λ (a : Alteration). a.id) id rest
 
--- rows put in place where the test says so
+-- The rows after the new ones replace the record's, if the test holds.
 abbrev pub placed_if : Bool → ℕ → List Row → List Row → List Row
 placed_if test id new rows = if test then placed_rows id new rows else rows
 
@@ -32,7 +32,7 @@ placed_if-placed_if false u a b x y rows other own_x own_y = refl
 placed_if-placed_if true false a b x y rows other own_x own_y = refl
 placed_if-placed_if true true a b x y rows other own_x own_y = placed-placed a b x y rows other own_x own_y
 
--- a record's rows may be put in place before the alterations of later records
+-- A record's rows may be replaced before the alterations of records with greater ids.
 pub altered-placed_if : (model : ℕ) (t : Bool) (id : ℕ) (new : List Row) (rest : List Alteration) (rows : List Row) → Above id rest → Rises rest → AreOwn rest → AreOf id new
     → altered_rows model rest (placed_if t id new rows) ≡ placed_if t id new (altered_rows model rest rows)
 altered-placed_if model t id new [] rows above rises own own_new = refl
@@ -46,7 +46,7 @@ placed_if-again : (t : Bool) (id : ℕ) (new old rows : List Row) → AreOf id o
 placed_if-again false id new old rows own = refl
 placed_if-again true id new old rows own = placed-again id new old rows own
 
--- where one more alteration comes to stand
+-- The place at which one more alteration is inserted.
 pub renamed-less : (id : ℕ) (new : List Row) (a : Alteration) (rest : List Alteration) → a.id < id → with_alteration id new (a ∷ rest) ≡ a ∷ with_alteration id new rest
 renamed-less id new a rest h = grind (arith, h)
 
@@ -56,7 +56,7 @@ renamed-same id new a rest h = grind (arith, h)
 pub renamed-more : (id : ℕ) (new : List Row) (a : Alteration) (rest : List Alteration) → id < a.id → with_alteration id new (a ∷ rest) ≡ record { id = id; rows = new } ∷ a ∷ rest
 renamed-more id new a rest h = grind (arith, h)
 
--- a number is less than another, equal to it or greater
+-- Of two numbers, the first is less, equal or greater.
 three : (a b : ℕ) → (a < b) ⊎ ((a ≡ b) ⊎ (b < a))
 three a b = elim (cases_lt a b) [
   | inl less ↦ inl less
@@ -73,7 +73,7 @@ same_record model id new a rest rows same rises own own_new =
     ap (altered_rows model rest) (sym (placed_if-again t id new a.rows rows old))
     ∙ altered-placed_if model t id new rest (placed_if t id a.rows rows) above rises.1 own.1 own_new)
 
--- one more alteration puts its rows in place
+-- One more alteration replaces the rows of its record.
 pub altered-renamed : (model id : ℕ) (new : List Row) (rest : List Alteration) (rows : List Row) → Rises rest → AreOwn rest → AreOf id new
     → altered_rows model (with_alteration id new rest) rows ≡ placed_if (model_of_id id == model) id new (altered_rows model rest rows)
 altered-renamed model id new [] rows rises own own_new = refl
@@ -90,7 +90,7 @@ altered-renamed model id new (a ∷ rest) rows rises own own_new =
           (altered-placed_if model t id new (a ∷ rest) rows more rises own own_new)
     ]
 
--- a record before all that are named isn't named
+-- A record with a lesser id than all altered ones isn't altered.
 pub named-above : (id : ℕ) (rest : List Alteration) → Above id rest → Rises rest → alternatives_named id rest ≡ None
 named-above id [] above rises = refl
 named-above id (a ∷ rest) above rises =
@@ -121,7 +121,8 @@ same_named id a rest rows same rises own =
     ∙ alternatives-placed_if_same id a rows same own.0
     ∙ named-same id a rest (alternatives id rows) same
 
--- the alternatives of a record after the alterations: its new ones where it is named, else those that stood there
+-- The alternatives of a record after the alterations: its new ones if it is altered, and its old
+-- ones otherwise.
 pub alternatives-altered : (id : ℕ) (rest : List Alteration) (rows : List Row) → Rises rest → AreOwn rest
     → alternatives id (altered_rows (model_of_id id) rest rows) ≡ unwrap_or (alternatives_named id rest) (alternatives id rows)
 alternatives-altered id [] rows rises own = refl
@@ -135,7 +136,7 @@ alternatives-altered id (a ∷ rest) rows rises own =
       | inr (inr more) ↦ (let other : a.id ≢ id = omega (arith, more) in ih ∙ ap (unwrap_or (alternatives_named id rest)) (alternatives-placed_if u id a.id a.rows rows other own.0) ∙ named-other id a rest (alternatives id rows) other)
     ]
 
--- one more alteration stands apart from the others
+-- After one more alteration there is still at most one for each record, by rising id.
 above-renamed : (k id : ℕ) (new : List Row) (rest : List Alteration) → k < id → Above k rest → Above k (with_alteration id new rest)
 above-renamed k id new [] h above = h
 above-renamed k id new (a ∷ rest) h above = elim (three a.id id) [
@@ -179,14 +180,14 @@ placed-before id new (a ∷ rest) count placed = elim (three a.id id) [
   | inr (inr more) ↦ let p = rw (renamed-more id new a rest more) at placed in p.1
 ]
 
--- the tables after one more alteration
+-- The tables after one more alteration.
 pub overlaid_from-renamed : (model id : ℕ) (new : List Row) (rest : List Alteration) (tables : List (List Row)) → Rises rest → AreOwn rest → AreOf id new
     → overlaid_from model (with_alteration id new rest) tables ≡ overlaid_from model (record { id = id; rows = new } ∷ []) (overlaid_from model rest tables)
 overlaid_from-renamed model id new rest [] rises own own_new = refl
 overlaid_from-renamed model id new rest (t ∷ tables) rises own own_new =
     rw (altered-renamed model id new rest t rises own own_new, overlaid_from-renamed (model + 1) id new rest tables rises own own_new) refl
 
--- the table of a model after the alterations
+-- The table of a model after the alterations.
 rows_of-overlaid_from : (first model : ℕ) (rest : List Alteration) (tables : List (List Row)) → model < length tables
     → rows_of (overlaid_from first rest tables) model ≡ altered_rows (first + model) rest (rows_of tables model)
 rows_of-overlaid_from first model rest [] h = absurd (omega (arith, h))
@@ -202,7 +203,7 @@ length-overlaid_from first rest (t ∷ tables) = grind (arith, length-overlaid_f
 rows_of-past : (model : ℕ) (tables : List (List Row)) → length tables ≤ model → rows_of tables model ≡ []
 rows_of-past model tables h = rw (slice_get_past tables model h) refl
 
--- alterations of records with tables leave a model without one as it is
+-- If the model of each altered record has a table, a model without a table has no altered record.
 altered-past : (model count : ℕ) (rest : List Alteration) (rows : List Row) → ArePlaced rest count → count ≤ model → altered_rows model rest rows ≡ rows
 altered-past model count [] rows placed h = refl
 altered-past model count (a ∷ rest) rows placed h =
@@ -210,7 +211,7 @@ altered-past model count (a ∷ rest) rows placed h =
     let no : (model_of_id a.id == model) ≡ false = grind (arith, other) in
     rw no (altered-past model count rest rows placed.1 h)
 
--- the rows of a model after the alterations of records that have tables
+-- The rows of a model after the alterations, if the model of each altered record has a table.
 pub rows_of-overlaid : (model : ℕ) (rest : List Alteration) (tables : List (List Row)) → ArePlaced rest (length tables)
     → rows_of (overlaid rest tables) model ≡ altered_rows model rest (rows_of tables model)
 rows_of-overlaid model rest tables placed = elim (cases_lt model (length tables)) [
@@ -220,7 +221,7 @@ rows_of-overlaid model rest tables placed = elim (cases_lt model (length tables)
       ∙ rw (rows_of-past model tables past) (sym (altered-past model (length tables) rest [] placed past)))
 ]
 
--- one more alteration of a record that is named stands at its place
+-- If the record is altered already, the new alteration is put at the place of the old one.
 pub renamed-at : (id : ℕ) (new : List Row) (items : List Alteration) (at : ℕ) (a : Alteration) → at < length items → a ≡ get_or items at a → a.id ≡ id
     → with_alteration id new items ≡ take at items ++ with_alteration id new (drop at items) → with_alteration id new items ≡ set items at (record { id = id; rows = new })
 renamed-at id new items at a h is same so_far =
@@ -230,7 +231,7 @@ renamed-at id new items at a h is same so_far =
     ∙ ap (λ left. take at items ++ left) (renamed-same id new a (drop (suc at) items) same)
     ∙ sym (set_split items at (record { id = id; rows = new }) h)
 
--- alternatives of one record, one by one
+-- Rows are alternatives of a record if each of them is.
 pub are_of : (id : ℕ) (rows : List Row) → All (λ (r : Row). r.id ≡ id) rows → AreOf id rows
 are_of id [] all = tt
 are_of id (r ∷ rows) all = (all 0 r (omega arith), are_of id rows (λ k d h. all (suc k) d (omega (arith, h))))

@@ -1,4 +1,4 @@
--- what a bisection by rising id finds
+-- What a bisection by rising id finds.
 use Rattle.std.proofs.Common.{◌≡◌, ◌≢◌, ℕ, ◌<◌, ◌≤◌, Bool, true, false, not, ◌&&◌, ◌==◌, nat_lt, nat_le, zero, suc, List, [], ◌∷◌, ◌++◌, length, get_or, set, take, drop, drop-cons, Some, None, refl, sym, ◌∙◌, ap, arith}
 use Rattle.std.proofs.lemmas.List.{get_or_default}
 use Rattle.std.specs.List.{AllByRecursion, AllWithin}
@@ -16,7 +16,7 @@ all-at k [] all j d less = absurd (omega (arith, less))
 all-at k (x ∷ xs) all zero d less = all.0
 all-at k (x ∷ xs) all (suc j) d less = all-at k xs all.1 j d (omega (arith, less))
 
--- what order says of each two places
+-- If the ids don't fall from row to row, they don't fall between any two places.
 pub rows_rise : (rows : List Row) → AreOrdered rows → IsNonDecreasingBy (λ (r : Row). r.id) rows
 rows_rise [] ordered i j d order less = absurd (omega (arith, less))
 rows_rise (x ∷ xs) ordered zero zero d order less = omega arith
@@ -24,7 +24,7 @@ rows_rise (x ∷ xs) ordered zero (suc j) d order less = all-at x.id xs ordered.
 rows_rise (x ∷ xs) ordered (suc i) zero d order less = absurd (omega (arith, order))
 rows_rise (x ∷ xs) ordered (suc i) (suc j) d order less = rows_rise xs ordered.1 i j d (omega (arith, order)) (omega (arith, less))
 
--- the rows up to a place pass the test, and those from there on fail it
+-- The rows before the place pass the test, and the others fail it.
 abbrev pub IsPoint : (ℕ → Bool) → List Row → ℕ → Type 0
 IsPoint p rows i = IsPartitionPoint (λ (r : Row). p r.id ≡ true) (λ r. p r.id ≡ false) rows i
 
@@ -46,7 +46,7 @@ next_point p r rows i point = (
   λ k d low high. point.1 (suc k) d (omega (arith, low)) (omega (arith, high)),
 )
 
--- what stands up to the place, and from there on
+-- The rows before the place are those that pass the test, and the others those that fail it.
 pub taken : (p : ℕ → Bool) (rows : List Row) (i : ℕ) → IsPoint p rows i → take i rows ≡ with_id p rows
 taken p [] zero point = refl
 taken p [] (suc i) point = refl
@@ -69,7 +69,7 @@ neither_less id i = grind arith
 greater : (id i : ℕ) → (not (nat_lt i id) && not (nat_le i id)) ≡ nat_lt id i
 greater id i = grind arith
 
--- of the rows with no lesser ids, those with no greater ones are the record's
+-- The alternatives of a record are the rows with an id that is neither less nor greater.
 pub own_through : (id : ℕ) (rows : List Row) → with_id (λ i. nat_le i id) (with_id (λ i. not (nat_lt i id)) rows) ≡ alternatives id rows
 own_through id rows =
     with_id-with_id (λ i. nat_le i id) (λ i. not (nat_lt i id)) rows
@@ -85,7 +85,7 @@ above-at k [] above rises j d less = absurd (omega (arith, less))
 above-at k (a ∷ rest) above rises zero d less = omega (arith, above)
 above-at k (a ∷ rest) above rises (suc j) d less = above-at k rest (above-less k a.id rest above rises.0) rises.1 j d (omega (arith, less))
 
--- the ids of alterations don't fall
+-- The ids of alterations don't fall.
 pub names_rise : (items : List Alteration) → Rises items → IsNonDecreasingBy (λ (a : Alteration). a.id) items
 names_rise [] rises i j d order less = absurd (omega (arith, less))
 names_rise (a ∷ items) rises zero zero d order less = omega arith
@@ -93,7 +93,7 @@ names_rise (a ∷ items) rises zero (suc j) d order less = above-at a.id items r
 names_rise (a ∷ items) rises (suc i) zero d order less = absurd (omega (arith, order))
 names_rise (a ∷ items) rises (suc i) (suc j) d order less = names_rise items rises.1 i j d (omega (arith, order)) (omega (arith, less))
 
--- the alterations up to a place are of lesser ids, and those from there on aren't
+-- The alterations before the place have lesser ids, and the others don't.
 abbrev pub IsNamePoint : ℕ → List Alteration → ℕ → Type 0
 IsNamePoint id items at = IsPartitionPoint (λ (a : Alteration). nat_lt a.id id ≡ true) (λ a. nat_lt a.id id ≡ false) items at
 
@@ -103,7 +103,7 @@ next_name_point id a items at point = (
   λ k d low high. point.1 (suc k) d (omega (arith, low)) (omega (arith, high)),
 )
 
--- one more alteration comes to stand after those of lesser ids
+-- One more alteration is inserted after those with lesser ids.
 renamed_past : (id : ℕ) (new : List Row) (items : List Alteration) (at : ℕ) → IsNamePoint id items at → with_alteration id new items ≡ take at items ++ with_alteration id new (drop at items)
 renamed_past id new [] zero point = refl
 renamed_past id new [] (suc at) point = refl
@@ -123,7 +123,7 @@ named_past id (a ∷ items) (suc at) point =
     named_skip id a items (point.0 0 a (omega arith) (omega arith))
     ∙ named_past id items at (next_name_point id a items at point)
 
--- the alteration at the place, where there is one
+-- The alteration at the place, if there is one.
 from_place : (items : List Alteration) (at : ℕ) (a : Alteration) → at < length items → a ≡ get_or items at a → drop at items ≡ a ∷ drop (suc at) items
 from_place items at a h is = drop-cons items at a h ∙ ap (λ x. x ∷ drop (suc at) items) (sym is)
 
@@ -133,7 +133,7 @@ rises-drop [] (suc at) rises = tt
 rises-drop (a ∷ items) zero rises = rises
 rises-drop (a ∷ items) (suc at) rises = rises-drop items at rises.1
 
--- where the record is named
+-- If the record is altered already, its alteration is at the place.
 pub renamed_at : (id : ℕ) (new : List Row) (items : List Alteration) (at : ℕ) (a : Alteration) → at < length items → a ≡ get_or items at a → a.id ≡ id → IsNamePoint id items at
     → with_alteration id new items ≡ set items at (record { id = id; rows = new })
 renamed_at id new items at a h is same point = renamed-at id new items at a h is same (renamed_past id new items at point)
@@ -148,7 +148,7 @@ named_at id items at a d h is same point =
 greater_of_test : (a b : ℕ) → nat_lt a b ≡ false → a ≢ b → b < a
 greater_of_test a b e other = grind (arith, e, other)
 
--- where another stands, of a greater id
+-- If another record's alteration is at the place, it has a greater id.
 greater_at : (id : ℕ) (items : List Alteration) (at : ℕ) (a : Alteration) → at < length items → a ≡ get_or items at a → a.id ≢ id → IsNamePoint id items at → id < a.id
 greater_at id items at a h is other point =
     let e : nat_lt a.id id ≡ false = rw is (point.1 at a (omega arith) h) in
@@ -167,7 +167,7 @@ named_between id items at a h is other rises point =
     let above : Above id (drop at items) = rw here (greater_at id items at a h is other point) in
     named_past id items at point ∙ named-above id (drop at items) above (rises-drop items at rises)
 
--- where none stands
+-- If there is no alteration at the place, it is the end.
 past_all : (items : List Alteration) → drop (length items) items ≡ []
 past_all [] = refl
 past_all (a ∷ items) = past_all items

@@ -1,4 +1,4 @@
--- Tables of which a record is altered, or none, and the indexes that are left.
+-- Tables with and without an altered record, and the indexes that are left.
 use Rattle.std.proofs.Common.{◌≡◌, ℕ, zero, suc, ◌+◌, ◌<◌, ◌==◌, ◌||◌, Bool, true, false, if◌then◌else◌, List, [], ◌∷◌, Option, Some, None, length, add-zero, zero-add, refl, ap, sym, ◌∙◌, subst, arith}
 use Rattle.std.proofs.lemmas.Bool.{or_parts}
 use Rattle.jac_value.specs.Ids.{model_of_id}
@@ -25,7 +25,7 @@ rows_unaltered_from first (suc model) changed (t ∷ tables) none =
     let next : first + suc model ≡ (first + 1) + model = omega arith in
     rows_unaltered_from (first + 1) model changed tables (subst (λ m. alters m changed ≡ false) next none)
 
--- a change leaves the table of a model of which it alters no record
+-- If a change alters no record of a model, its table stays the same.
 pub rows_unaltered : (model : ℕ) (changed : List Alteration) (tables : List (List Row)) → alters model changed ≡ false → rows_of (overlaid changed tables) model ≡ rows_of tables model
 rows_unaltered model changed tables none = rows_unaltered_from 0 model changed tables (subst (λ m. alters m changed ≡ false) (omega arith) none)
 
@@ -38,7 +38,7 @@ rows_altered_from first (suc m) changed (t ∷ tables) some =
     let next : (first + 1) + m ≡ first + suc m = omega arith in
     rows_altered_from (first + 1) m changed tables some ∙ ap (λ k. altered_rows k changed (rows_of tables m)) next
 
--- the table of a model after alterations, where an altered one wasn't empty
+-- The table of a model after alterations. If a record of it is altered, it wasn't empty.
 pub altered_table : (m : ℕ) (changed : List Alteration) (tables : List (List Row)) → (alters m changed ≡ true → 0 < length (rows_of tables m))
     → altered_rows m changed (rows_of tables m) ≡ rows_of (overlaid changed tables) m
 altered_table m changed tables some = by_case (alters m changed) refl
@@ -47,7 +47,7 @@ altered_table m changed tables some = by_case (alters m changed) refl
     by_case true e = sym (rows_altered_from 0 m changed tables (some e) ∙ ap (λ k. altered_rows k changed (rows_of tables m)) (zero-add m))
     by_case false e = altered_other m changed (rows_of tables m) e ∙ sym (rows_unaltered m changed tables e)
 
--- what is left at a model once alterations were gone through
+-- What is left for a model after the alterations: nothing if a record of it is altered.
 abbrev pub forgotten : {X : Type 0} → ℕ → List Alteration → Option X → Option X
 forgotten k [] found = found
 forgotten k (a ∷ rest) found = forgotten k rest (if model_of_id a.id == k then None else found)
@@ -68,7 +68,7 @@ left_index m changed tables found x true test right is = absurd cc
 left_index m changed tables found x false test right is =
     subst (λ (rows : List Row). IsIndexOf rows x) (sym (rows_unaltered m changed tables test)) (right is)
 
--- the indexes that are left are those of the tables after the change
+-- The indexes that are left are those of the tables after the change.
 pub indexes_left : (changed : List Alteration) (tables : List (List Row)) (old new : TableIndexes)
     → ((m : ℕ) → index_at m new ≡ (if alters m changed then None else index_at m old)) → AreIndexesOf tables old → AreIndexesOf (overlaid changed tables) new
 indexes_left changed tables old new left right m x is =

@@ -19,7 +19,8 @@ unless : (b : Bool) → (b ≡ true → true ≡ false) → b ≡ false
 unless true h = h refl
 unless false h = refl
 
--- two tests, of which one passes lesser ids than the other
+-- The rows that pass one of two tests, if each id that passes the first is less than each that
+-- passes the second.
 joined_if : (p q : ℕ → Bool) (r : Row) (rows : List Row) (a b : Bool) → p r.id ≡ a → q r.id ≡ b → AllByRecursion (λ (x : Row). r.id ≤ x.id) rows
     → ((i j : ℕ) → p i ≡ true → q j ≡ true → i < j) → with_id p rows ++ with_id q rows ≡ with_id (λ i. p i || q i) rows
     → (if a then r ∷ with_id p rows else with_id p rows) ++ (if b then r ∷ with_id q rows else with_id q rows) ≡ (if a || b then r ∷ with_id (λ i. p i || q i) rows else with_id (λ i. p i || q i) rows)

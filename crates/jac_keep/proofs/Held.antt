@@ -1,4 +1,4 @@
--- What is found among rows: as they are read, and as they are altered.
+-- Which records have a value in a field: as the rows are read, and after they are altered.
 use Rattle.std.proofs.Common.{◌≡◌, ◌∙◌, refl, sym, ap, ℕ, ◌==◌, nat_lt, Bool, true, false, not, ◌&&◌, ◌||◌, if◌then◌else◌, List, [], ◌∷◌, ◌++◌, length, arith}
 use Rattle.std.specs.List.{list_any}
 use Rattle.std.proofs.lemmas.Bool.Decides.{Decides-eqb}
@@ -54,7 +54,7 @@ module _ (f : ℕ) (v : Value) where
       ∙ rw (holds-with_id test rows i)
       (with_one (test r.id) (r.id == i) (has_cell f v r) (holds_cell f v rows i) (test i) (λ e. ap test ((Decides-eqb r.id i).0 e)))
 
-  -- rows of one record hold for it alone
+  -- A row says something about its own record only.
   of_one : (id i : ℕ) (r : Row) (b : Bool) → r.id ≡ id → (((r.id == i) && has_cell f v r) || ((id == i) && b)) ≡ ((id == i) && (has_cell f v r || b))
   of_one id i r b e = rw e (spread (id == i) (has_cell f v r) b)
     where
@@ -70,7 +70,7 @@ module _ (f : ℕ) (v : Value) where
       and_none false = refl
   holds-own id i (r ∷ rows) own = rw (holds-own id i rows own.1) (of_one id i r (list_any (has_cell f v) rows) own.0)
 
-  -- what holds among rows in place of a record's
+  -- Whether a record has the value after new rows replace those of one record.
   holds-placed : (id : ℕ) (new rows : List Row) (i : ℕ) → AreOf id new
       → holds_cell f v (placed_rows id new rows) i ≡ (((nat_lt i id && holds_cell f v rows i) || ((id == i) && list_any (has_cell f v) new)) || (nat_lt id i && holds_cell f v rows i))
   holds-placed id new rows i own =
@@ -80,7 +80,8 @@ module _ (f : ℕ) (v : Value) where
   rewritten_at : (id k : ℕ) (h n : Bool) → (((id == k) && n) || (not ((k == id) && h) && h)) ≡ (((nat_lt k id && h) || ((id == k) && n)) || (nat_lt id k && h))
   rewritten_at id k h n = grind arith
 
-  -- a record's new alternatives, and what others hold
+  -- Whether a record has the value: in its new alternatives if it was altered, and in its old ones
+  -- otherwise.
   pub holds-rewritten : (id : ℕ) (new rows : List Row) (k : ℕ) → AreOf id new
       → (holds_cell f v new k || (not (holds_cell f v (alternatives id rows) k) && holds_cell f v rows k)) ≡ holds_cell f v (placed_rows id new rows) k
   holds-rewritten id new rows k own =
@@ -127,7 +128,7 @@ holders_altered f v m (a ∷ rest) rows own =
     holders_altered f v m rest (placed_if t a.id a.rows rows) own.1
     ∙ ap (altered_rows m (masked_alterations f v rest)) (holders-placed_if f v t a.id a.rows rows own.0)
 
--- a scan of the rows
+-- One step of a scan of the rows.
 pub held_next : (f : ℕ) (v : Value) (rows : List Row) (old new : List ℕ) (r : Row) (rest : List Row) (k : ℕ)
     → shown_by new k ≡ (((r.id == k) && has_cell f v r) || shown_by old k) → (shown_by old k || holds_cell f v (r ∷ rest) k) ≡ holds_cell f v rows k → (shown_by new k || holds_cell f v rest k) ≡ holds_cell f v rows k
 held_next f v rows old new r rest k added so_far = rw added (turned ((r.id == k) && has_cell f v r) (shown_by old k) (holds_cell f v rest k) ∙ so_far)
@@ -140,7 +141,7 @@ held_next f v rows old new r rest k added so_far = rw added (turned ((r.id == k)
 pub held_all : (a : Bool) → (a || false) ≡ a
 held_all a = or_none a
 
--- masked alterations stand apart as they did
+-- Masked alterations have the same ids.
 above_masked : (f : ℕ) (v : Value) (k : ℕ) (rest : List Alteration) → StartsAboveBy (λ (a : Alteration). a.id) k rest → StartsAboveBy (λ (a : Alteration). a.id) k (masked_alterations f v rest)
 above_masked f v k [] above = tt
 above_masked f v k (a ∷ rest) above = above
@@ -160,7 +161,7 @@ own_masked f v (a ∷ rest) own = (own_if (list_any (has_cell f v) a.rows) a.id 
 pub apart_masked : (f : ℕ) (v : Value) (rest : List Alteration) → AreApart rest → AreApart (masked_alterations f v rest)
 apart_masked f v rest apart = record { rising = rises_masked f v rest apart.rising; own = own_masked f v rest apart.own }
 
--- what a work finds: the keeper's rows, and the replaced records in their places
+-- What a work finds: the keeper's rows, after the replaced records.
 pub rows_with_read : (f : ℕ) (v : Value) (model : ℕ) (over masks : List Alteration) (tables : List (List Row)) (rows out : List Row) → ArePlaced over (length tables) → AreApart over
     → rows ≡ holders f v (rows_of tables model) → masks ≡ masked_alterations f v over → out ≡ altered_rows model masks rows → out ≡ holders f v (rows_of (overlaid over tables) model)
 rows_with_read f v model over masks tables rows out placed apart found is out_is =

@@ -1,4 +1,4 @@
--- Indexes of tables that are altered, record by record.
+-- Indexes of tables that are altered record by record.
 use Rattle.std.proofs.Common.{◌≡◌, ◌∙◌, ◌<◌, ◌==◌, refl, sym, ap, subst, ℕ, zero, suc, Bool, true, false, ◌||◌, if◌then◌else◌, List, [], ◌∷◌, length, get_or, take, Option, Some, None, unwrap_or, arith}
 use Rattle.std.proofs.lemmas.Bool.Decides.{Decides-eqb}
 use Rattle.jac_value.specs.Ids.{model_of_id}
@@ -13,7 +13,7 @@ use Rattle.jac_keep.specs.declared.table_indexes.TableIndexes.{TableIndexes}
 use Rattle.jac_keep.proofs.AlteringLaws.{Rises, Above, placed_if, alternatives-altered}
 use Rattle.jac_keep.proofs.Forgotten.{altered_table}
 
--- one alteration more, of those from the first one on
+-- One step over the alterations.
 pub own_at : (i : ℕ) (changed : List Alteration) (a : Alteration) → i < length changed → a ≡ get_or changed i a → AreOwn changed → AreOf a.id a.rows
 own_at i [] a h is own = absurd (omega (arith, h))
 own_at zero (x ∷ changed) a h is own = rw is own.0
@@ -70,7 +70,7 @@ own_taken zero changed own = tt
 own_taken (suc i) [] own = tt
 own_taken (suc i) (x ∷ changed) own = (own.0, own_taken i changed own.1)
 
--- a record's alternatives stand as they did while those before it are altered
+-- A record's alternatives are the same until its own alteration.
 unaltered_yet : (i : ℕ) (changed : List Alteration) (a : Alteration) (rows : List Row) → i < length changed → a ≡ get_or changed i a → AreApart changed
     → alternatives a.id (altered_rows (model_of_id a.id) (take i changed) rows) ≡ alternatives a.id rows
 unaltered_yet i changed a rows h is apart =
@@ -118,7 +118,7 @@ module _ (table : ℕ → List Row) (changed : List Alteration) (i next : ℕ) (
   pub altered_next : AreAltered table (take next changed) old after
   altered_next = subst (λ n. AreAltered table (take n changed) old after) (sym more) altered_suc
 
--- the indexes are those of the tables after the alterations
+-- The indexes are those of the tables after the alterations.
 pub indexes_follow : (tables : List (List Row)) (changed : List Alteration) (old new : TableIndexes) → AreAltered (rows_of tables) changed old new → AreIndexesOf (overlaid changed tables) new
 indexes_follow tables changed old new all m x is =
     subst (λ (rows : List Row). IsIndexOf rows x) (altered_table m changed tables (all.some m x is)) (all.right m x is)

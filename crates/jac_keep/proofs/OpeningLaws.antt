@@ -1,4 +1,4 @@
--- tables whose rows are taken out, altered and put back
+-- Tables with rows that are taken out, altered and put back.
 use Rattle.std.proofs.Common.{◌≡◌, ℕ, ◌+◌, ◌==◌, Bool, true, false, ◌&&◌, IsTrue, if◌then◌else◌, List, [], ◌∷◌, ◌++◌, length, add-zero, refl, sym, ◌∙◌, ap, subst, arith}
 use Rattle.std.specs.List.{AllByRecursion}
 use Rattle.jac_value.specs.Ids.{model_of_id}
@@ -42,14 +42,14 @@ placed_each-if : (b : Bool) (a : Alteration) (rest : List Alteration) (rows : Li
 placed_each-if true a rest rows = refl
 placed_each-if false a rest rows = refl
 
--- the alterations of other models leave the rows
+-- Alterations of other models don't change the rows.
 pub altered-of_model : (model : ℕ) (changed : List Alteration) (rows : List Row) → altered_rows model changed rows ≡ placed_each (of_model model changed) rows
 altered-of_model model [] rows = refl
 altered-of_model model (a ∷ rest) rows =
     altered-of_model model rest (if model_of_id a.id == model then placed_rows a.id a.rows rows else rows)
     ∙ placed_each-if (model_of_id a.id == model) a (of_model model rest) rows
 
--- tables that are ready can be altered
+-- Tables that are ready can be altered.
 pub can_place : (model : ℕ) (changed : List Alteration) (os : List Opened) → AreOwn changed → AreTables (rows_in os) → AreReady model changed os → AllByRecursion CanPlace os
 can_place model changed [] own tables ready = tt
 can_place model changed (o ∷ os) own tables ready = (
@@ -72,7 +72,7 @@ after_all model changed (o ∷ os) ready =
     ap (λ news. placed_each news o.rows.items) ready.0.news ∙ sym (altered-of_model model changed o.rows.items) in
     rw (here, after_all (model + 1) changed os ready.1) refl
 
--- the tables after the alterations where these are ready, and as they were where they aren't
+-- The tables after the alterations if these are ready. Otherwise the tables as they were.
 pub altered_if_ready : (ready : Bool) (changed : List Alteration) (os : List Opened) (tables : List (List Row)) → rows_in os ≡ tables → (IsTrue ready → AreReady 0 changed os)
     → ready ≡ true → rows_after ready os ≡ overlaid changed tables
 altered_if_ready ready changed os tables same all is_ready = rw (is_ready, ← same) (after_all 0 changed os (all is_ready))

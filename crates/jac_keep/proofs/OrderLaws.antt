@@ -1,4 +1,4 @@
--- rows whose ids don't fall, and those that take the place of others among them
+-- Rows with ids that don't fall, and rows that replace others among them.
 use Rattle.std.proofs.Common.{◌≡◌, ℕ, ◌+◌, ◌<◌, ◌≤◌, nat_lt, zero, suc, Bool, true, false, if◌then◌else◌, List, [], ◌∷◌, ◌++◌, length, take, drop, refl, sym, subst, ap, arith}
 use Rattle.std.specs.List.{AllByRecursion, insert}
 use Rattle.jac_rows.specs.Apart.{IsBefore}
@@ -17,12 +17,12 @@ from-before : (x : Row) (xs : List Row) → IsBefore (λ (r : Row). r.id) (λ r.
 from-before x [] before = tt
 from-before x (y ∷ ys) before = (before.0, from-before x ys before.2)
 
--- a table's rows are ordered
+-- A table's rows are ordered.
 pub ordered_if_rising : (rows : List Row) → AreRising rows → AreOrdered rows
 ordered_if_rising [] rising = tt
 ordered_if_rising (r ∷ rows) rising = (from-before r rows rising.0, ordered_if_rising rows rising.1)
 
--- the test of order
+-- The test for order.
 not_less : (a b : ℕ) (x : Bool) → (if nat_lt a b then false else x) ≡ true → b ≤ a
 not_less a b x e = grind (arith, e)
 
@@ -50,7 +50,8 @@ ordered-with_id test [] ordered = tt
 ordered-with_id test (r ∷ rows) ordered =
     ordered-if (test r.id) r (with_id test rows) (all-with_id (λ (x : Row). r.id ≤ x.id) test rows ordered.0) (ordered-with_id test rows ordered.1)
 
--- two lists, of which the ids of one are at most a number and those of the other at least it
+-- Two lists together are ordered, if the ids of the first are at most a number, and those of the
+-- second at least the number.
 ordered-append : (k : ℕ) (xs ys : List Row) → AreOrdered xs → AreOrdered ys → AllByRecursion (λ (x : Row). x.id ≤ k) xs → AreFrom k ys → AreOrdered (xs ++ ys)
 ordered-append k [] ys a b most least = b
 ordered-append k (x ∷ xs) ys a b most least =
@@ -69,7 +70,7 @@ ordered_of : (id : ℕ) (rows : List Row) → AreOf id rows → AreOrdered rows
 ordered_of id [] own = tt
 ordered_of id (r ∷ rows) own = (from_less r.id id rows (omega (arith, own.0)) (least_of id rows own.1), ordered_of id rows own.1)
 
--- rows stay ordered where a record's are replaced by alternatives of it
+-- Rows stay ordered after alternatives of a record replace its old ones.
 pub ordered-placed : (id : ℕ) (new rows : List Row) → AreOf id new → AreOrdered rows → AreOrdered (placed_rows id new rows)
 ordered-placed id new rows own ordered =
     let low : AllByRecursion (λ (r : Row). r.id ≤ id) (before id rows) =
@@ -82,7 +83,7 @@ ordered-placed id new rows own ordered =
     (all-append (λ (r : Row). r.id ≤ id) (before id rows) new low (most_of id new own))
     high
 
--- one row more at a place
+-- One row is inserted at a place.
 pub insert-front : (at next : ℕ) (row : Row) (rows : List Row) → next ≡ suc at → at ≤ length rows → take next (insert rows at row) ≡ take at rows ++ row ∷ []
 insert-front zero next row [] e h = rw e refl
 insert-front (suc at) next row [] e h = absurd (omega (arith, h))

@@ -1,30 +1,31 @@
--- rows in place of a record's alternatives: what stays, and in which order records may be replaced
+-- Rows that replace a record's alternatives: what stays the same, and that the order of two
+-- replacements doesn't matter.
 use Rattle.std.proofs.Common.{◌≡◌, ◌≢◌, ℕ, ◌<◌, Bool, true, false, ◌&&◌, ◌==◌, nat_lt, List, [], ◌∷◌, ◌++◌, refl, sym, inl, inr, ◌∙◌, ap, append_assoc, append-nil, arith, rules}
 use Rattle.std.proofs.lemmas.Bool.{cases_lt}
 use Rattle.jac_rows.specs.declared.row.Row.{Row}
 use Rattle.jac_keep.specs.Records.{with_id, alternatives, before, behind, placed_rows, AreOf}
 
--- a test of a list's two parts
+-- A test of two lists, one after the other.
 pub with_id-append : (test : ℕ → Bool) (xs ys : List Row) → with_id test (xs ++ ys) ≡ with_id test xs ++ with_id test ys
 with_id-append test [] ys = refl
 with_id-append test (x ∷ xs) ys = grind (arith, with_id-append test xs ys)
 
--- two tests, one after the other
+-- Two tests, one after the other.
 pub with_id-with_id : (p q : ℕ → Bool) (xs : List Row) → with_id p (with_id q xs) ≡ with_id (λ i. q i && p i) xs
 with_id-with_id p q [] = refl
 with_id-with_id p q (x ∷ xs) = grind (arith, with_id-with_id p q xs)
 
--- tests that answer alike
+-- Tests that give the same results.
 pub with_id-like : (p q : ℕ → Bool) (xs : List Row) → ((i : ℕ) → p i ≡ q i) → with_id p xs ≡ with_id q xs
 with_id-like p q [] h = refl
 with_id-like p q (x ∷ xs) h = grind (arith, h x.id, with_id-like p q xs h)
 
--- a test that nothing passes
+-- A test that nothing passes.
 pub with_id-none : (p : ℕ → Bool) (xs : List Row) → ((i : ℕ) → p i ≡ false) → with_id p xs ≡ []
 with_id-none p [] h = refl
 with_id-none p (x ∷ xs) h = grind (arith, h x.id, with_id-none p xs h)
 
--- the alternatives of one record pass together, or none does
+-- Either all alternatives of a record pass, or none does.
 pub with_id-all_of : (p : ℕ → Bool) (id : ℕ) (xs : List Row) → AreOf id xs → p id ≡ true → with_id p xs ≡ xs
 with_id-all_of p id [] h e = refl
 with_id-all_of p id (x ∷ xs) h e = grind (arith, h.0, with_id-all_of p id xs h.1 e)
@@ -33,13 +34,13 @@ pub with_id-none_of : (p : ℕ → Bool) (id : ℕ) (xs : List Row) → AreOf id
 with_id-none_of p id [] h e = refl
 with_id-none_of p id (x ∷ xs) h e = grind (arith, h.0, with_id-none_of p id xs h.1 e)
 
--- what passes a test of rows in place of others
+-- The rows that pass a test, after rows are replaced.
 pub with_id-placed : (test : ℕ → Bool) (id : ℕ) (new rows : List Row) → with_id test (placed_rows id new rows) ≡ with_id test (before id rows) ++ with_id test new ++ with_id test (behind id rows)
 with_id-placed test id new rows =
     with_id-append test (before id rows ++ new) (behind id rows)
     ∙ ap (λ xs. xs ++ with_id test (behind id rows)) (with_id-append test (before id rows) new)
 
--- the tests of places, at two ids of which one is less
+-- The tests for lesser and greater ids, at two ids.
 below_below : (a b : ℕ) → a < b → (i : ℕ) → (nat_lt i b && nat_lt i a) ≡ nat_lt i a
 below_below a b h i = grind arith
 
@@ -61,7 +62,7 @@ and-turned p q = grind arith
 above_above : (a b : ℕ) → a < b → (i : ℕ) → (nat_lt b i && nat_lt a i) ≡ nat_lt b i
 above_above a b h i = grind arith
 
--- the rows between two ids, from either side
+-- The rows between two ids. The two tests may be made in either order.
 between : (a b : ℕ) (rows : List Row) → with_id (λ i. nat_lt a i) (with_id (λ i. nat_lt i b) rows) ≡ with_id (λ i. nat_lt i b) (with_id (λ i. nat_lt a i) rows)
 between a b rows =
     with_id-with_id (λ i. nat_lt a i) (λ i. nat_lt i b) rows
@@ -86,7 +87,7 @@ behind-behind a b rows h = with_id-with_id (λ i. nat_lt a i) (λ i. nat_lt b i)
 behind-behind_less : (a b : ℕ) (rows : List Row) → a < b → behind b (behind a rows) ≡ behind b rows
 behind-behind_less a b rows h = with_id-with_id (λ i. nat_lt b i) (λ i. nat_lt a i) rows ∙ with_id-like (λ i. nat_lt a i && nat_lt b i) (λ i. nat_lt b i) rows (above_above_less a b h)
 
--- what stands before and after a record, where another record's rows are put in place
+-- The rows before and after a record, after another record's rows are replaced.
 before-placed_less : (a b : ℕ) (y rows : List Row) → a < b → AreOf b y → before a (placed_rows b y rows) ≡ before a rows
 before-placed_less a b y rows h own =
     let none : with_id (λ i. nat_lt i a) y ≡ [] = with_id-none_of (λ i. nat_lt i a) b y own (search rules) in
@@ -109,17 +110,17 @@ behind-placed_more a b x rows h own =
     with_id-placed (λ i. nat_lt b i) a x rows
     ∙ rw (behind-before a b rows h, none, behind-behind_less a b rows h) refl
 
--- two lists and two more between them
+-- Five lists, joined in either of two groupings.
 regrouped : (p x m y q : List Row) → p ++ x ++ (m ++ y ++ q) ≡ p ++ x ++ m ++ y ++ q
 regrouped p x m y q = search (rules, append_assoc)
 
--- the rows of two records may be put in place in either order
+-- The rows of two records may be replaced in either order, if the first id is less.
 pub placed-placed_less : (a b : ℕ) (x y rows : List Row) → a < b → AreOf a x → AreOf b y → placed_rows a x (placed_rows b y rows) ≡ placed_rows b y (placed_rows a x rows)
 placed-placed_less a b x y rows h own_x own_y =
     rw (before-placed_less a b y rows h own_y, behind-placed_less a b y rows h own_y, before-placed_more a b x rows h own_x, behind-placed_more a b x rows h own_x, between a b rows)
     (regrouped (before a rows) x (with_id (λ i. nat_lt i b) (behind a rows)) y (behind b rows))
 
--- the rows of two different records may be put in place in either order
+-- The rows of two different records may be replaced in either order.
 pub placed-placed : (a b : ℕ) (x y rows : List Row) → a ≢ b → AreOf a x → AreOf b y → placed_rows a x (placed_rows b y rows) ≡ placed_rows b y (placed_rows a x rows)
 placed-placed a b x y rows other own_x own_y =
     elim (cases_lt a b) [
@@ -166,11 +167,11 @@ behind-placed_same id old rows own =
     with_id-with_id (λ i. nat_lt id i) (λ i. nat_lt id i) rows ∙ with_id-like (λ i. nat_lt id i && nat_lt id i) (λ i. nat_lt id i) rows (λ i. twice (nat_lt id i)) in
     with_id-placed (λ i. nat_lt id i) id old rows ∙ rw (low, middle, high) refl
 
--- the rows that were put in place last stand there
+-- Of two replacements for one record, the last one counts.
 pub placed-again : (id : ℕ) (new old rows : List Row) → AreOf id old → placed_rows id new (placed_rows id old rows) ≡ placed_rows id new rows
 placed-again id new old rows own = rw (before-placed_same id old rows own, behind-placed_same id old rows own) refl
 
--- the alternatives of a record whose rows were put in place, and of another one
+-- The alternatives of a record after its rows are replaced, and those of another record.
 pub alternatives-placed_same : (id : ℕ) (new rows : List Row) → AreOf id new → alternatives id (placed_rows id new rows) ≡ new
 alternatives-placed_same id new rows own =
     let low : alternatives id (before id rows) ≡ [] =

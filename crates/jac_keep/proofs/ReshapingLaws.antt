@@ -1,4 +1,4 @@
--- Tables with empty ones after them, and what a reshape leaves.
+-- Tables with empty ones added after them, and the result of a reshape.
 use Rattle.std.proofs.Common.{◌≡◌, ℕ, suc, ◌+◌, ◌-◌, ◌<◌, ◌≤◌, List, [], ◌∷◌, ◌++◌, length, Option, None, Ok, IsTrue, true≢false, append_assoc, append-nil, sym, ◌∙◌, ap, subst, arith}
 use Rattle.std.proofs.lemmas.List.{length-append}
 use Rattle.jac_rows.specs.Good.{ModelShape, IsSound}
@@ -14,7 +14,7 @@ use Rattle.jac_keep.specs.Schema.{IsSchema, IsFit, empties}
 use Rattle.jac_keep.specs.Sound.{AreTables}
 use Rattle.jac_keep.proofs.SoundLaws.{sound_if_good, tables_of_sound}
 
--- where there are enough tables none is added
+-- If there are enough tables, none is added.
 pub widened_end : (ts : List (List Row)) (models : ℕ) → models ≤ length ts → ts ++ empties (models - length ts) ≡ ts
 widened_end ts models enough =
     let none : models - length ts ≡ 0 = omega (arith, enough) in
@@ -23,7 +23,7 @@ widened_end ts models enough =
 pub widened_none : (ts : List (List Row)) → ts ++ empties (0 - length ts) ≡ ts
 widened_none ts = widened_end ts 0 (omega arith)
 
--- one of those that are added
+-- One table is added.
 pub widened_step : (ts : List (List Row)) (models : ℕ) → length ts < models
     → (ts ++ [] ∷ []) ++ empties (models - length (ts ++ [] ∷ [])) ≡ ts ++ empties (models - length ts)
 widened_step ts models less =
@@ -35,13 +35,13 @@ tables_front : (ts us : List (List Row)) → AreTables (ts ++ us) → AreTables 
 tables_front [] us rising = tt
 tables_front (t ∷ ts) us rising = (rising.0, tables_front ts us rising.1)
 
--- a change that fits once there are more tables has rising ones
+-- If a state fits after empty tables are added, the rows of its tables rise.
 pub tables_if_fit : (shapes : List ModelShape) (s : State) → IsFit shapes (widened_state (length shapes) s) → AreTables s.tables
 tables_if_fit shapes s fit =
     tables_front s.tables (empties (length shapes - length s.tables))
     (tables_of_sound (widened_state (length shapes) s) (sound_if_good shapes (widened_state (length shapes) s) fit.good))
 
--- a keeper that was called keeps any state that is sound
+-- A keeper may have any sound state after the first call of `attach`.
 pub keeping_if_called : (s new : State) (store : Store) (indexes : Option TableIndexes) → IsSound s → new ≡ s → AreIndexesIfMade new.tables indexes → IsTrue store.called
     → IsKeeping new store indexes
 keeping_if_called s new store indexes sound same indexed called = record {
@@ -56,7 +56,7 @@ pub keeping_if_fit : (shapes : List ModelShape) (s new : State) (store : Store) 
 keeping_if_fit shapes s new store fit same called =
     keeping_if_called (widened_state (length shapes) s) new store None (sound_if_good shapes (widened_state (length shapes) s) fit.good) same tt called
 
--- what a reshape leaves that is accepted
+-- The keeper after a reshape that succeeds.
 pub reshapes_ok : (old new : KeeperState) (change : Change) (schema : List ℕ) (shapes : List ModelShape) → IsSchema schema shapes → old.faults ≤ new.faults
     → ((others : List ModelShape) → IsSchema schema others → new ≡ after_reshape change schema (length others) old)
     → Reshapes (seen_keeper old) (seen_keeper new) change schema (Ok tt)

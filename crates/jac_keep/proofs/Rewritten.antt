@@ -1,4 +1,4 @@
--- An index whose record's alternatives were replaced.
+-- An index after a record's alternatives are replaced.
 use Rattle.std.proofs.Common.{◌≡◌, ◌∙◌, ◌<◌, refl, sym, ap, subst, ℕ, not, ◌&&◌, ◌||◌, List, length, Option, Some, None, unwrap_or}
 use Rattle.jac_index.specs.declared.by_value.ByValue.{ByValue}
 use Rattle.jac_rows.specs.declared.row.Row.{Row}
@@ -8,7 +8,7 @@ use Rattle.jac_keep.specs.Records.{AreOf, alternatives, placed_rows}
 use Rattle.jac_keep.specs.declared.table_index.TableIndex.{TableIndex}
 use Rattle.jac_keep.proofs.Held.{holds-rewritten}
 
--- an index that was rewritten is one of the rows with the new ones in place
+-- A rewritten index is an index of the rows after the new ones replace the record's.
 rewritten : (f id : ℕ) (new rows : List Row) (b c : ByValue) → AreOf id new → IsRewritten f (alternatives id rows) new b c → IsByField f rows b → IsByField f (placed_rows id new rows) c
 rewritten f id new rows b c own changed right v k =
     changed v k
@@ -30,7 +30,7 @@ follows id own new t u own_new changed rows same right f c is =
     field_follows f id new rows (field_index f t.fields.items) (field_index f u.fields.items) c own_new
     (subst (λ (old : List Row). IsFieldAfter f old new (field_index f t.fields.items) (field_index f u.fields.items)) (sym same) (changed f)) (right f) is
 
--- what is left of a model's index
+-- The cases in which a model's index is left.
 pub left_none : (id : ℕ) (rows new : List Row) (before after : Option TableIndex) → after ≡ None → Remains id rows new before after
 left_none id rows new before after none u is = absurd (gone (sym none ∙ is))
   where

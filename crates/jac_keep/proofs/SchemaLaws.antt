@@ -1,4 +1,4 @@
--- what is read of a schema text, and the states of its stores
+-- What is read from a schema text, and the states of its stores.
 use Rattle.std.proofs.lemmas.List.{take-append-drop}
 use Rattle.std.proofs.lemmas.Slice.Eq.{bytes_eq-Decides}
 use Rattle.std.specs.Bool.{Decides}
@@ -22,11 +22,11 @@ use Rattle.jac_keep.specs.KeeperState.{KeeperState, IsStored, attached_state, af
 use Rattle.jac_keep.specs.Attaching.{IsNewStore, OpensStore, Attaches}
 use Rattle.jac_keep.proofs.SoundLaws as sound
 
--- what was made so far, before what is still to come
+-- The items made so far, followed by the rest.
 abbrev pub made_before : {A : Type 0} → List A → Option (List A) → Option (List A)
 made_before made rest = option_map (λ more. made ++ more) rest
 
--- a schema text spells its tree
+-- A schema text spells its tree.
 pub schema_spells : (text : List ℕ) (kinds : List ModelShape) → (s : IsSchema text kinds) → Spells text s.tree
 schema_spells text kinds s = subst (λ (bytes : List ℕ). Spells bytes s.tree) (sym s.spelled) (printed_spells s.tree s.atoms)
 
@@ -36,13 +36,13 @@ some_injective x y e = cc
 some_is_none : {A : Type 0} → (x : A) → Some x ≡ None → ⊥
 some_is_none x e = cc
 
--- a text has one list of kinds
+-- A text has at most one list of shapes.
 pub schema_one : (text : List ℕ) (kinds others : List ModelShape) → IsSchema text kinds → IsSchema text others → kinds ≡ others
 schema_one text kinds others a b =
     let same : a.tree ≡ b.tree = spells_one text a.tree b.tree (schema_spells text kinds a) (schema_spells text others b) in
     some_injective kinds others (sym a.read ∙ ap shapes_of_schema same ∙ b.read)
 
--- the first bytes of a text that spells a tree begin it
+-- The first bytes of a text that spells a tree are the beginning of such a text.
 begun : (at : ℕ) (text : List ℕ) (t : PlainTree) → Spells text t → IsBegunDocument (take at text)
 begun at text t spelled = (drop at text, t, subst (λ (bytes : List ℕ). Spells bytes t) (sym (take-append-drop at text)) spelled)
 
@@ -50,7 +50,7 @@ begun_within : (at : ℕ) (text : List ℕ) (t : PlainTree) → Spells text t �
 begun_within at text t spelled shallow =
     (drop at text, t, subst (λ (bytes : List ℕ). Spells bytes t) (sym (take-append-drop at text)) spelled, shallow)
 
--- bytes that have a fault spell no tree of at most 64 levels
+-- If bytes have a fault, they spell no tree of at most 64 levels.
 pub no_tree_at_fault : (text : List ℕ) (fault : TreeFault) (t : PlainTree) → HasFault text fault → ¬ (fault ≡ faults.Memory) → Spells text t → nesting t ≤ 64 → ⊥
 no_tree_at_fault text faults.Memory t has other spelled shallow = other refl
 no_tree_at_fault text (faults.Stray at) t has other spelled shallow = has.after (begun (at + 1) text t spelled)
@@ -67,7 +67,7 @@ pub no_schema_if : {E S : Type 0} (text : List ℕ) (fault : TreeFault) (result 
 no_schema_if text fault (Ok found) has other = λ none kinds s. no_schema_at_fault text fault has other kinds s
 no_schema_if text fault (Err e) has other = tt
 
--- each model of empty tables is good
+-- Empty tables are good for all models.
 empties_good : (kinds : List ModelShape) (next model n : ℕ) → AreGuarded kinds next model (empties n)
 empties_good kinds next model zero = tt
 empties_good kinds next model (suc n) = (tt, tt, empties_good kinds next (model + 1) n)
@@ -76,16 +76,17 @@ pub length_empties : (n : ℕ) → length (empties n) ≡ n
 length_empties zero = refl
 length_empties (suc n) = ap suc (length_empties n)
 
--- a new store fits
+-- A new store fits its schema.
 pub empties_fit : (kinds : List ModelShape) (s : State) → IsNext s.number → IsFit kinds (record s { tables = empties (length kinds) })
 empties_fit kinds s next = record { good = (next, empties_good kinds s.number 0 (length kinds)); tables = length_empties (length kinds) }
 
--- what may be attached is sound
+-- A state that may be attached is sound.
 pub stored_sound : (schema : Option (List ℕ)) (s : State) → IsStored schema s → IsSound s
 stored_sound None s stored = record { next = stored.1; tables = subst (λ (ts : List (List Row)). AreSound s.number 0 ts) (sym stored.0) tt }
 stored_sound (Some schema) s stored = sound.sound_if_good stored.0.0 s (stored.1 stored.0.0 stored.0.1).good
 
--- a tree that spells a text which it is printed as, and the shapes that it gives
+-- If a tree spells a text, and the text is its printed form, the text is a schema with the shapes
+-- that the tree gives.
 found_schema : (text : List ℕ) (tree : PlainTree) (shapes : List ModelShape) → nesting tree ≤ 64 → Spells text tree
     → Some shapes ≡ (if bytes_eq text (printed_tree tree) then shapes_of_schema tree else None) → IsSchema text shapes
 found_schema text tree shapes shallow spelled found =
@@ -100,13 +101,13 @@ pub found_shapes : {S : Type 0} (f : S → List ModelShape) (text : List ℕ) (t
 found_shapes f text tree None shallow spelled found = tt
 found_shapes f text tree (Some s) shallow spelled found = found_schema text tree (f s) shallow spelled found
 
--- as many shapes as there are lists of kinds
+-- There are as many shapes as lists of kinds.
 pub length_shapes : (kinds : List (List Kind)) (nested : List Bool) → length (shapes_by kinds nested) ≡ length kinds
 length_shapes [] nested = refl
 length_shapes (ks ∷ kinds) [] = ap suc (length_shapes kinds [])
 length_shapes (ks ∷ kinds) (n ∷ nested) = ap suc (length_shapes kinds nested)
 
--- where it gives none, the text is no schema
+-- If the tree gives no shapes, the text is no schema.
 pub no_schema : (text : List ℕ) (tree : PlainTree) → ((t : PlainTree) → Spells text t → t ≡ tree)
     → None ≡ (if bytes_eq text (printed_tree tree) then shapes_of_schema tree else None) → (kinds : List ModelShape) → ¬ (IsSchema text kinds)
 no_schema text tree one none kinds s =
@@ -119,7 +120,7 @@ no_schema text tree one none kinds s =
     at_test true same printed_so read none = some_is_none kinds (sym read ∙ sym none)
     at_test false same printed_so read none = true≢false (sym (same.1 printed_so))
 
--- where the schema of a store is none, or the one that is wanted, its state fits the schema once it is attached
+-- If a store has no schema or this one, its state fits the schema after it is attached.
 pub fit_after : (stored : Option (List ℕ)) (schema : List ℕ) (s : State) (kinds : List ModelShape) → IsSchema schema kinds → IsStored stored s
     → (stored ≡ None) ⊎ (stored ≡ Some schema) → IsFit kinds (attached_state stored (length kinds) s)
 fit_after None schema s kinds is held known = empties_fit kinds s held.1
@@ -127,7 +128,7 @@ fit_after (Some text) schema s kinds is held (inl none) = absurd (some_is_none t
 fit_after (Some text) schema s kinds is held (inr same) =
     held.1 kinds (subst (λ (t : List ℕ). IsSchema t kinds) (sym (some_injective text schema same)) is)
 
--- the tables of a new store make a sound state
+-- A new store's state is sound.
 pub new_sound : (schema : List ℕ) (kinds : List ModelShape) (s : State) (tables : List (List Row)) → IsNext s.number
     → tables ≡ empties (length kinds) → IsSound (record s { tables = tables })
 new_sound schema kinds s tables next same =
@@ -153,7 +154,7 @@ opens old name schema kinds is held known = record {
         subst (λ ks. IsNewStore old.state ks (attached_state old.store.schema (length kinds) old.state)) same
         (subst (λ t. IsNewStore old.state kinds (attached_state t (length kinds) old.state)) (sym none) (record { tables = refl; number = refl }))
 
--- what an attach that is accepted leaves
+-- The keeper after a call of `attach` that succeeds.
 pub attaches_ok : (old new : KeeperState) (name : Option (List ℕ)) (schema : List ℕ) (kinds : List ModelShape) → IsSchema schema kinds
     → IsStored old.store.schema old.state → (old.store.schema ≡ None) ⊎ (old.store.schema ≡ Some schema)
     → new ≡ after_attach name schema (length kinds) old → Attaches (seen_keeper old) (seen_keeper new) name schema (Ok tt)

@@ -1,4 +1,4 @@
--- what a sound state gives, and what keeps it sound
+-- What follows from a sound state, and what keeps a state sound.
 use Rattle.std.proofs.Common.{◌≡◌, ℕ, zero, suc, ◌+◌, ◌<◌, ◌≤◌, ◌^◌, ◌==◌, nat_lt, Bool, true, false, if◌then◌else◌, List, [], ◌∷◌, ◌++◌, refl, arith}
 use Rattle.std.specs.List.{AllByRecursion}
 use Rattle.std.proofs.lemmas.Bool.{ltb-true}
@@ -20,11 +20,11 @@ sound_tables : (next model : ℕ) (tables : List (List Row)) → AreSound next m
 sound_tables next model [] sound = tt
 sound_tables next model (t ∷ ts) sound = (sound.0, sound_tables next (model + 1) ts sound.2)
 
--- the tables of a sound state
+-- The tables of a sound state.
 pub tables_of_sound : (s : State) → IsSound s → AreTables s.tables
 tables_of_sound s sound = sound_tables s.number 0 s.tables sound.tables
 
--- the rows of a model in tables
+-- The rows of a model in the tables.
 pub tables_rise : (tables : List (List Row)) (model : ℕ) → AreTables tables → AreRising (rows_of tables model)
 tables_rise [] zero rising = tt
 tables_rise [] (suc model) rising = tt
@@ -37,7 +37,7 @@ rows_of_sound s model sound = tables_rise s.tables model (tables_of_sound s soun
 abbrev Before : Row → List Row → Type 0
 Before x ys = IsBefore (λ (r : Row). r.id) (λ r. r.guard) x ys
 
--- a row stands before rows of greater ids
+-- A row may be put before rows with greater ids.
 before_greater : (x : Row) (ys : List Row) (k : ℕ) → x.id < k → AllByRecursion (λ (y : Row). k ≤ y.id) ys → Before x ys
 before_greater x [] k less all = tt
 before_greater x (y ∷ ys) k less all = (omega (arith, less, all.0), (λ same. absurd (omega (arith, same, less, all.0))), before_greater x ys k less all.1)
@@ -46,7 +46,8 @@ before-append : (x : Row) (ys zs : List Row) → Before x ys → Before x zs →
 before-append x [] zs a b = b
 before-append x (y ∷ ys) zs a b = (a.0, a.1, before-append x ys zs a.2 b)
 
--- two lists, of which the ids of one are below a number and those of the other aren't
+-- Two lists together rise, if the ids of the first are below a number and those of the second
+-- aren't.
 rising-append : (k : ℕ) (xs ys : List Row) → AreRising xs → AreRising ys → AllByRecursion (λ (x : Row). x.id < k) xs → AllByRecursion (λ (y : Row). k ≤ y.id) ys → AreRising (xs ++ ys)
 rising-append k [] ys a b less greater = b
 rising-append k (x ∷ xs) ys a b less greater =
@@ -68,7 +69,7 @@ rising-with_id : (test : ℕ → Bool) (xs : List Row) → AreRising xs → AreR
 rising-with_id test [] a = tt
 rising-with_id test (x ∷ xs) a = rising-if (test x.id) x (with_id test xs) (before-with_id test x xs a.0) (rising-with_id test xs a.1)
 
--- a fact of each row stays true of those that pass a test
+-- If something holds for each row, it holds for those that pass a test.
 all-if : (P : Row → Type 0) (b : Bool) (x : Row) (xs : List Row) → P x → AllByRecursion P xs → AllByRecursion P (if b then x ∷ xs else xs)
 all-if P true x xs h rest = (h, rest)
 all-if P false x xs h rest = rest
@@ -81,7 +82,7 @@ pub all-append : (P : Row → Type 0) (xs ys : List Row) → AllByRecursion P xs
 all-append P [] ys a b = b
 all-append P (x ∷ xs) ys a b = (a.0, all-append P xs ys a.1 b)
 
--- the rows that stand before and after a record have lesser and greater ids
+-- The rows before a record have lesser ids, and those after it have greater ones.
 passing-if : (P : Row → Type 0) (b : Bool) (x : Row) (xs : List Row) → (b ≡ true → P x) → AllByRecursion P xs → AllByRecursion P (if b then x ∷ xs else xs)
 passing-if P true x xs h rest = (h refl, rest)
 passing-if P false x xs h rest = rest
@@ -101,7 +102,7 @@ pub all-mapped : (P Q : Row → Type 0) (xs : List Row) → ((x : Row) → P x �
 all-mapped P Q [] f a = tt
 all-mapped P Q (x ∷ xs) f a = (f x a.0, all-mapped P Q xs f a.1)
 
--- a table stays one where a record's rows are replaced by alternatives of it
+-- Rows still rise after alternatives of a record replace its old ones.
 rising-placed : (id : ℕ) (new rows : List Row) → AllByRecursion (λ (r : Row). r.id ≡ id) new → AreRising new → AreRising rows → AreRising (placed_rows id new rows)
 rising-placed id new rows own rising_new rising =
     let low : AreRising (before id rows) = rising-with_id (λ i. nat_lt i id) rows rising in
@@ -151,7 +152,7 @@ sound-overlaid_from model next rest [] all sound = tt
 sound-overlaid_from model next rest (t ∷ tables) all sound =
     (rising-altered model next rest t all sound.0, made-altered model next rest t all sound.1, sound-overlaid_from (model + 1) next rest tables all sound.2)
 
--- a state stays sound for a greater next number
+-- A state is sound for a greater next number too.
 later : (next more model : ℕ) (tables : List (List Row)) → next ≤ more → AreSound next model tables → AreSound more model tables
 later next more model [] h sound = tt
 later next more model (t ∷ tables) h sound = (
@@ -160,7 +161,8 @@ later next more model (t ∷ tables) h sound = (
   later next more (model + 1) tables h sound.2,
 )
 
--- a change leaves a sound state where its alternatives may stand there and the number doesn't fall
+-- A sound state stays sound after a change, if the new alternatives are allowed and the number
+-- doesn't fall.
 pub sound-applied : (c : Change) (s : State) → IsSound s → s.number ≤ c.number → c.number ≤ 2 ^ 40 → AllStand c.number c.changed → IsSound (changed_state c s)
 sound-applied c s sound h end all =
     record {
@@ -168,7 +170,7 @@ sound-applied c s sound h end all =
       tables = sound-overlaid_from 0 c.number c.changed s.tables all (later s.number c.number 0 s.tables h sound.tables);
     }
 
--- a sound state stays one where a record is deleted
+-- A sound state stays sound after a record is deleted.
 pub sound_without : (id n : ℕ) (s : State) → IsSound s → s.number ≤ n → n ≤ 2 ^ 40 → IsSound (record (state_with id [] s) { number = n })
 sound_without id n s sound h end =
     sound-applied (record { changed = record { id = id; rows = [] } ∷ []; number = n }) s sound h end (record { own = tt; rising = tt; made = tt }, tt)
@@ -181,6 +183,6 @@ sound_if_guarded : (shapes : List ModelShape) (next model : ℕ) (tables : List 
 sound_if_guarded shapes next model [] good = tt
 sound_if_guarded shapes next model (t ∷ tables) good = (good.0, made_if_record shapes model next t good.1, sound_if_guarded shapes next (model + 1) tables good.2)
 
--- a good state is sound
+-- A good state is sound.
 pub sound_if_good : (shapes : List ModelShape) (s : State) → IsGoodByGuards shapes s → IsSound s
 sound_if_good shapes s good = record { next = good.0; tables = sound_if_guarded shapes s.number 0 s.tables good.1 }

@@ -8,13 +8,13 @@ use Rattle.jac_keep.specs.Schema.{IsSchema, IsFit, empties}
 use Rattle.jac_keep.specs.declared.vault.AttachFault.{AttachFault}
 use Rattle.jac_keep.specs.declared.vault.AttachFault.TheVariants.{Failed, Other}
 
--- a new store is empty, with a table for each model, and its number stays
+-- A new store has an empty table for each model. Its number stays the same.
 pub record IsNewStore (before : State) (shapes : List ModelShape) (state : State) : Type 0 where
   pub tables : state.tables ≡ empties (length shapes)
   pub number : state.number ≡ before.number
 
--- it is attached under this name, with this schema: what was stored under it stands, and else the
--- store was new
+-- The store is attached with this name and this schema. If something was stored with the schema, it
+-- is kept. Otherwise the store is new.
 pub record OpensStore (old new : KeeperSeen) (name : Option (List ℕ))
     (schema : List ℕ) : Type 0 where
   pub attached : IsTrue new.store.attached
@@ -29,14 +29,14 @@ pub record OpensStore (old new : KeeperSeen) (name : Option (List ℕ))
   pub made : IsTrue new.tells → IsTrue old.tells → old.store.schema ≡ None
       → (shapes : List ModelShape) → IsSchema schema shapes → IsNewStore old.state shapes new.state
 
--- nothing is changed
+-- The state was known before. It and the schema are the same.
 pub record IsRefused (old new : KeeperSeen) : Type 0 where
   pub told : IsTrue old.tells
   pub same_state : new.state ≡ old.state
   pub same_schema : new.store.schema ≡ old.store.schema
 
--- what attaching leaves: it fails only where the count of faults rose, and another schema is told
--- where the one that is stored differs; a refused store isn't attached
+-- A call of `attach`. It gives `Failed` only if the count of faults rose, and `Other` only if that
+-- schema is stored and differs. After an error the store isn't attached by this call.
 pub record Attaches (old new : KeeperSeen) (name : Option (List ℕ)) (schema : List ℕ)
     (result : Result (Unit {0}) AttachFault) : Type 0 where
   pub later : old.faults ≤ new.faults

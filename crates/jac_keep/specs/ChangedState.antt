@@ -5,13 +5,14 @@ use Rattle.jac_rows.specs.declared.state.State.{State}
 use Rattle.jac_keep.specs.declared.alteration.Change.{Change}
 use Rattle.jac_keep.specs.Alterations.{overlaid}
 
--- the state with these rows in place of a record's alternatives
+-- The state after these rows replace the record's alternatives.
 abbrev pub state_with : ℕ → List Row → State → State
 state_with id rows s = record s {
   tables = overlaid (record { id = id; rows = rows } ∷ [])
       s.tables;
 }
 
--- the state after a change: the named records are replaced and the number is set
+-- The state after a change: the alternatives of each changed record are replaced, and the number is
+-- set.
 abbrev pub changed_state : Change → State → State
 changed_state c s = record { tables = overlaid c.changed s.tables; number = c.number }

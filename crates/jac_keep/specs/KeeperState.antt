@@ -1,4 +1,4 @@
--- a keeper in memory, as contracts see it
+-- A keeper in memory, as contracts see it.
 use Rattle.std.specs.Prelude.{◌≡◌, ℕ, List, [], Bool, true, false, Option, Some, None, IsTrue, if◌then◌else◌}
 use Rattle.jac_io.specs.Faults.{one_more_fault}
 use Rattle.jac_io.specs.Calls.{is_listed}
@@ -13,8 +13,8 @@ use Rattle.jac_keep.specs.Schema.{IsSchema, IsFit, empties}
 use Rattle.jac_keep.specs.declared.alteration.Change.{Change}
 use Rattle.jac_keep.specs.declared.table_indexes.TableIndexes.{TableIndexes}
 
--- the state, its store, the reads and the applies that are to fail, and how many of each there were
--- and how many calls failed
+-- The state; the store; the numbers of the reads and of the applies that fail; the counts of reads
+-- and of applies; and the count of calls that failed.
 pub record KeeperState : Type 0 where
   pub state : State
   pub store : Store
@@ -24,68 +24,72 @@ pub record KeeperState : Type 0 where
   pub applies : ℕ
   pub faults : ℕ
 
--- whether the next read, and the next apply, is to fail
+-- Whether the next read fails, and whether the next apply fails.
 abbrev pub read_fails : KeeperState → Bool
 read_fails k = is_listed (one_more_fault k.reads) k.fail_reads
 
 abbrev pub apply_fails : KeeperState → Bool
 apply_fails k = is_listed (one_more_fault k.applies) k.fail_applies
 
--- what the next read leaves
+-- The keeper after the next read.
 abbrev pub after_read : KeeperState → KeeperState
 after_read k = record k {
   reads = one_more_fault k.reads;
   faults = if read_fails k then one_more_fault k.faults else k.faults;
 }
 
--- what the next apply leaves beside the state
+-- The keeper after the next apply, apart from its state.
 abbrev pub after_apply : KeeperState → KeeperState
 after_apply k = record k {
   applies = one_more_fault k.applies;
   faults = if apply_fails k then one_more_fault k.faults else k.faults;
 }
 
--- it tells its state
+-- What contracts see of the keeper. Its state is known.
 abbrev pub seen_keeper : KeeperState → KeeperSeen
 seen_keeper k = record { tells = true; state = k.state; faults = k.faults; store = k.store }
 
--- what is stored may be attached: it fits its schema, or there is none and no table
+-- What is stored may be attached: if there is a schema, the state fits it. Otherwise there is no
+-- table.
 abbrev pub IsStored : Option (List ℕ) → State → Type 0
 IsStored None s = (s.tables ≡ []) × IsNext s.number
 IsStored (Some schema) s = ((shapes : List ModelShape) × IsSchema schema shapes)
     × ((shapes : List ModelShape) → IsSchema schema shapes → IsFit shapes s)
 
--- its state is sound, and may be attached as long as nobody tried to; its indexes are of its tables
+-- The state is sound, and the indexes agree with its tables. Before the first call of `attach`,
+-- what is stored may be attached.
 pub record IsKeeping (state : State) (store : Store) (indexes : Option TableIndexes) : Type 0 where
   pub sound : IsSound state
   pub indexed : AreIndexesIfMade state.tables indexes
   pub called : IsTrue store.attached → IsTrue store.called
   pub stored : store.called ≡ false → IsStored store.schema state
 
--- a store that nobody tried to attach, and one that is attached without a name or a schema
+-- The store before the first call of `attach`, and a store that is attached without a name or a
+-- schema.
 abbrev pub unattached_store : Option (List ℕ) → Store
 unattached_store schema = record { called = false; attached = false; schema = schema; name = None }
 
 abbrev pub attached_store : Store
 attached_store = record { called = true; attached = true; schema = None; name = None }
 
--- what an attach leaves that is refused
+-- The keeper after a call of `attach` that fails.
 abbrev pub after_refusal : KeeperState → KeeperState
 after_refusal k = record k { store = record k.store { called = true } }
 
--- the state of a store of so many models: what was stored, and empty tables where it is new
+-- The state after a store of this many models is attached: what was stored, or empty tables if the
+-- store is new.
 abbrev pub attached_state : Option (List ℕ) → ℕ → State → State
 attached_state None models s = record s { tables = empties models }
 attached_state (Some schema) models s = s
 
--- what an attach leaves that is accepted
+-- The keeper after a call of `attach` that succeeds.
 abbrev pub after_attach : Option (List ℕ) → List ℕ → ℕ → KeeperState → KeeperState
 after_attach name schema models k = record k {
   state = attached_state k.store.schema models k.state;
   store = record { called = true; attached = true; schema = Some schema; name = name };
 }
 
--- what a reshape leaves that is accepted
+-- The keeper after a call of `reshape` that succeeds.
 abbrev pub after_reshape : Change → List ℕ → ℕ → KeeperState → KeeperState
 after_reshape change schema models k = record (after_apply k) {
   state = widened_state models (changed_state change k.state);

@@ -11,22 +11,22 @@ abbrev pub is_cell : Value → Option Value → Bool
 is_cell v None = false
 is_cell v (Some c) = equality.ghosts.eq c v
 
--- the row has the value at the field
+-- The row has the value in the field.
 abbrev pub has_cell : ℕ → Value → Row → Bool
 has_cell f v r = is_cell v (slice_get r.cells f)
 
--- an alternative of the record has it
+-- An alternative of the record has the value in the field.
 abbrev pub holds_cell : ℕ → Value → List Row → ℕ → Bool
 holds_cell f v rows id = list_any (λ r. (r.id == id) && has_cell f v r) rows
 
--- all alternatives of the records of which one has it
+-- All alternatives of the records that have an alternative with the value in the field.
 abbrev pub holders : ℕ → Value → List Row → List Row
 holders f v rows = with_id (holds_cell f v rows) rows
 
 abbrev pub masked_rows : ℕ → Value → List Row → List Row
 masked_rows f v rows = if list_any (has_cell f v) rows then rows else []
 
--- alterations, without the rows of the records of which none has it
+-- The alterations. Those without a row that has the value in the field lose their rows.
 abbrev pub masked_alterations : ℕ → Value → List Alteration → List Alteration
 masked_alterations f v [] = []
 masked_alterations f v (a ∷ rest) = record { id = a.id; rows = masked_rows f v a.rows }

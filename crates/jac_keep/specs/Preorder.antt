@@ -1,12 +1,12 @@
--- Relations that hold over a sequence of steps if they hold for each step
+-- Relations that hold over a sequence of steps if they hold for each step.
 use Rattle.std.specs.Prelude.{⊤}
 
--- a relation that holds of each value and itself, and along two steps where it holds along each
+-- A reflexive and transitive relation.
 pub record Preorder (A : Type 0) : Type 1 where
   pub holds : A → A → Type 0
   pub same : (a : A) → holds a a
   pub joined : (a b c : A) → holds a b → holds b c → holds a c
 
--- the one that holds of any two values
+-- The relation that holds between any two values.
 abbrev pub of_any : {A : Type 0} → Preorder A
 of_any = record { holds = λ a b. ⊤; same = λ a. tt; joined = λ a b c one two. tt }

@@ -1,4 +1,4 @@
--- What leaves a state sound.
+-- Which tables, and which alternatives of a record, are allowed in a sound state.
 use Rattle.std.specs.Prelude.{◌≡◌, ℕ, List, [], ◌∷◌, ⊤}
 use Rattle.std.specs.List.{AllByRecursion}
 use Rattle.jac_value.specs.Ids.{model_of_id}
@@ -10,13 +10,13 @@ abbrev pub AreTables : List (List Row) → Type 0
 AreTables [] = ⊤
 AreTables (t ∷ ts) = AreRising t × AreTables ts
 
--- alternatives of a record that may stand in a sound state with this next number
+-- These alternatives of the record are allowed in a sound state with this next number.
 pub record MayStand (next id : ℕ) (new : List Row) : Type 0 where
   pub own : AllByRecursion (λ (r : Row). r.id ≡ id) new
   pub rising : AreRising new
   pub made : AllByRecursion (λ (r : Row). IsMade (model_of_id id) next r.id) new
 
--- the alternatives of each alteration may stand
+-- The alternatives of each alteration are allowed.
 abbrev pub AllStand : ℕ → List Alteration → Type 0
 AllStand next [] = ⊤
 AllStand next (a ∷ rest) = MayStand next a.id a.rows × AllStand next rest

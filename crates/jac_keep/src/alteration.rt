@@ -13,7 +13,7 @@ use jac_value::{Id, Memory, id_model};
 use std::alloc::Global;
 use std::marker::Model;
 
-/// A record with all its new alternatives. With no rows the record is gone.
+/// A record with all its new alternatives. If there are no rows, the record is deleted.
 #[derive(Debug, Drop)]
 pub struct Alteration {
     pub id: Id,
@@ -29,7 +29,7 @@ impl Alteration {
     }
 }
 
-/// Alterations of records, one for each, by rising id.
+/// Alterations of records, at most one for each, by rising id.
 #[derive(Debug, Drop)]
 pub struct Alterations {
     changed: Vec<Alteration>,
@@ -90,7 +90,7 @@ impl Alterations {
         Ok(Alterations { changed })
     }
 
-    /// The new alternatives of the record, if it is named.
+    /// The new alternatives of the record, if it is altered.
     pub fn find(&self, id: Id) -> Option<&Rows>
         ensures found { option_copied result ≡ alternatives_named id self.now }
         ensures apart { AreApart self.now }
@@ -102,7 +102,7 @@ impl Alterations {
         }
     }
 
-    /// Names the record, in place of its earlier alteration if there is one.
+    /// Adds an alteration of the record. It replaces an earlier one of the same record.
     #[tactic(auto, using(crate::proofs::AlteringLaws::apart_put))]
     pub fn put(&mut self, id: Id, rows: Rows) -> Result<(), Memory>
         requires { All (λ (r : Seen). r.id ≡ id) rows }
@@ -135,7 +135,7 @@ pub fn is_altered(changed: &[Alteration], model: usize) -> bool
     false
 }
 
-// Names the record, in place of its earlier alteration if there is one.
+// Adds an alteration of the record. It replaces an earlier one of the same record.
 fn put_in(changed: &mut Vec<Alteration>, id: Id, rows: Rows) -> Result<(), Memory>
     requires { IsRisingBy (λ (a : Named). a.id) changed.old.items }
     ensures ok { OnOk result (changed.new.items ≡ with_alteration id rows changed.old.items) }
@@ -148,7 +148,7 @@ fn put_in(changed: &mut Vec<Alteration>, id: Id, rows: Rows) -> Result<(), Memor
     Ok(())
 }
 
-// Where the record's alteration stands, or where it would.
+// The place of the record's alteration (`Ok`), or the place where it is to be inserted (`Err`).
 fn place_of(items: &[Alteration], id: Id) -> Result<usize, usize>
     requires { IsRisingBy (λ (a : Named). a.id) items.now }
     ensures within { MatchResult result (λ at. at < length items.now)
@@ -168,7 +168,7 @@ fn place_of(items: &[Alteration], id: Id) -> Result<usize, usize>
     if items[at].id == id { Ok(at) } else { Err(at) }
 }
 
-// How many alterations have lesser ids.
+// The number of alterations with lesser ids.
 fn count_below(items: &[Alteration], id: Id) -> usize
     requires { IsRisingBy (λ (a : Named). a.id) items.now }
     ensures within { result ≤ length items.now }

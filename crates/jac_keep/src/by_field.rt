@@ -11,7 +11,7 @@ use jac_rows::Row;
 use jac_value::{Memory, Value};
 use std::alloc::Global;
 
-/// The records of the table by the values of the field.
+/// An index of the field: the ids of records by the values of the field.
 pub fn index_of(alloc: Global, rows: &[Row], field: usize) -> Result<ByValue, Memory>
     ensures { IfOk result (IsByField field rows.now) }
 {
@@ -20,7 +20,7 @@ pub fn index_of(alloc: Global, rows: &[Row], field: usize) -> Result<ByValue, Me
     Ok(values)
 }
 
-/// The field's index, if there is one, without the old rows and with the new ones.
+/// The field's index, if there is one, after the new rows replace the old ones.
 pub fn altered_field(
     alloc: Global,
     values: Option<ByValue>,
@@ -39,7 +39,7 @@ pub fn altered_field(
     }
 }
 
-// The index without the old rows and with the new ones.
+// The index after the new rows replace the old ones.
 fn rewritten(
     alloc: Global,
     values: ByValue,

@@ -1,4 +1,4 @@
-//! Rows that take the place of others in a list with room for them.
+//! Puts rows in place of others, in a list with room for them.
 ghost use Rattle.std.specs.Prelude.{◌≡◌, ◌+◌, ◌<◌, ◌≤◌, ◌++◌, ◌∷◌, [], length, take, drop, vec_len, vec_capacity};
 ghost use Rattle.jac_keep.specs.Records.{AreOrdered, placed_rows};
 
@@ -18,8 +18,8 @@ pub fn place(rows: &mut Vec<Row>, id: Id, new: Vec<Row>)
     exchange(rows, start, start + count, new);
 }
 
-// Puts these rows in place of those from `start` to `end`. As many as these are overwritten, so
-// that rows that stand after them move only where the numbers differ.
+// Puts these rows in place of those from `start` to `end`. Rows are overwritten as far as possible,
+// so that the rows after them move only if the numbers differ.
 fn exchange(rows: &mut Vec<Row>, start: usize, end: usize, new: Vec<Row>)
     requires order { start ≤ end }
     requires within { end ≤ vec_len rows.old }
@@ -38,8 +38,8 @@ fn exchange(rows: &mut Vec<Row>, start: usize, end: usize, new: Vec<Row>)
     drop(rows.drain(at..end));
 }
 
-// Puts the row at `at`: over the one that stands there, or before `end` where `at` is all that is
-// left. It gives where the rows after stand then.
+// Puts the row at `at`. It overwrites the row there if `at` is below `end`, and is inserted
+// otherwise. The result is the place of the rows that were at `end`.
 fn put_row(rows: &mut Vec<Row>, at: usize, end: usize, row: Row) -> usize
     requires order { at ≤ end }
     requires within { end ≤ vec_len rows.old }

@@ -1,4 +1,4 @@
-//! The indexes of a table's fields, each at the place of its field.
+//! The indexes of a table's fields. The place of an index is that of its field.
 ghost use Rattle.std.specs.Prelude.{◌≡◌, ◌<◌, ◌==◌, ℕ, Some, None, false, length, if◌then◌else◌, IfOk, OnOk, OnErr};
 ghost use Rattle.std.specs.Option.{option_copied};
 ghost use Rattle.jac_keep.specs.Indexed.{field_index, IsFieldAfter};
@@ -22,7 +22,8 @@ pub fn field_of(fields: &[Option<ByValue>], place: usize) -> Option<&ByValue>
     }
 }
 
-/// Puts an index to its place, after which there may be none yet.
+/// Puts an index at this place. If the list is too short, it is extended with fields that have
+/// none.
 pub fn put_in(
     fields: &mut Vec<Option<ByValue>>,
     place: usize,
@@ -67,7 +68,7 @@ fn take_at(fields: &mut Vec<Option<ByValue>>, place: usize) -> Option<ByValue>
     fields[place].take()
 }
 
-/// The indexes, each without the old rows and with the new ones.
+/// The indexes, each after the new rows replace the old ones.
 pub fn alter_fields(
     alloc: Global,
     fields: Vec<Option<ByValue>>,

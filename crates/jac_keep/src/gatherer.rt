@@ -9,7 +9,7 @@ use jac_rows::{Row, Rows};
 use jac_value::{Id, Memory};
 use std::alloc::Global;
 
-/// The rows whose ids are among these, in their order.
+/// The rows with these ids, in their order.
 pub fn rows_of_ids(alloc: Global, rows: &[Row], ids: &[Id]) -> Result<Rows, Memory>
     requires ordered { AreOrdered rows.now }
     requires ascending { IsAscending ids.now }

@@ -14,14 +14,14 @@ use jac_rows::{Row, Rows};
 use jac_value::{Id, Value};
 use std::alloc::Global;
 
-/// What keeps a faceted state.
+/// Keeps a faceted state.
 pub trait Keeper {
-    /// What contracts see of it. Its state says nothing where it isn't told, and its count of
-    /// faults never falls, and stands still at 2^64 - 1.
+    /// What contracts see of it. Its state means nothing unless `tells` holds. Its count of faults
+    /// never falls, and stops at 2^64 - 1.
     ghost seen: { Self → KeeperSeen };
 
-    /// What each call keeps beside that, as that it goes on telling. It is nothing where a keeper
-    /// doesn't say.
+    /// A relation between the keeper before and after each call, for example that its state stays
+    /// known. By default it always holds.
     ghost goes: { Preorder Self } = { of_any };
 
     /// The number of the next accepted request.
@@ -50,7 +50,7 @@ pub trait Keeper {
         ensures reads { Reads (seen self.old) (seen self.new) result }
         ensures goes { goes.holds self.old self.new };
 
-    /// All alternatives of each record of the model of which one has the value at the field.
+    /// All alternatives of the records that have an alternative with the value in the field.
     fn rows_with(
         &mut self,
         alloc: Global,
@@ -65,7 +65,7 @@ pub trait Keeper {
         ensures reads { Reads (seen self.old) (seen self.new) result }
         ensures goes { goes.holds self.old self.new };
 
-    /// Where the alternatives of one record stand, if this keeper has them at hand. It counts as a
+    /// The place of the record's alternatives, if this keeper has them in memory. It counts as a
     /// read.
     fn find(&mut self, id: Id) -> Result<Option<Place>, Stop>
         requires { IsTrue (seen self.old).store.attached }
@@ -76,8 +76,8 @@ pub trait Keeper {
         Ok(None)
     }
 
-    /// The alternatives of one record, lent, if this keeper has them at hand. They are sought near
-    /// the place first, and found wherever they stand.
+    /// The record's alternatives, borrowed, if this keeper has them in memory. They are sought near
+    /// this place first, but found wherever they are.
     fn held(&self, id: Id, near: Place) -> Option<&[Row]>
         ensures { IfSome result (λ rows. IsTrue (seen self.now).tells
             → rows.now ≡ alternatives id (rows_of (seen self.now).state.tables (model_of_id id))) }
@@ -87,7 +87,7 @@ pub trait Keeper {
         None
     }
 
-    /// Whether this keeper has the rows of the model at hand now. It counts as a read.
+    /// Whether this keeper has the rows of the model in memory. It counts as a read.
     fn find_rows(&mut self, alloc: Global, model: u8) -> Result<bool, Stop>
         requires { IsTrue (seen self.old).store.attached }
         ensures looks { Looks (seen self.old) (seen self.new) result }
@@ -98,7 +98,7 @@ pub trait Keeper {
         Ok(false)
     }
 
-    /// All rows of the model, by rising id, lent, if this keeper has them at hand.
+    /// All rows of the model, by rising id, borrowed, if this keeper has them in memory.
     fn held_rows(&self, model: u8) -> Option<&[Row]>
         ensures { IfSome result (λ rows. IsTrue (seen self.now).tells
             → rows.now ≡ rows_of (seen self.now).state.tables model) }
@@ -107,7 +107,7 @@ pub trait Keeper {
         None
     }
 
-    /// Replaces the named records and sets the number, all or nothing.
+    /// Replaces the alternatives of the changed records and sets the number, all or nothing.
     fn apply(&mut self, alloc: Global, change: &Change) -> Result<(), Stop>
         requires attached { IsTrue (seen self.old).store.attached }
         requires good { IsTrue (seen self.old).tells

@@ -14,15 +14,15 @@ pub fn sound_if_good()
     ensures { (shapes : List ModelShape) (s : State) → IsGoodByGuards shapes s → IsSound s }
 {}
 
-/// A law: a change leaves a sound state where its alternatives may stand and the number doesn't
-/// fall.
+/// A law: a sound state stays sound after a change, if the new alternatives are allowed and the
+/// number doesn't fall.
 pub fn sound_after_change()
     ensures { (c : Changed) (s : State) → IsSound s → s.number ≤ c.number → c.number ≤ 2 ^ 40
         → AllStand c.number c.changed → IsSound (changed_state c s) }
 {}
 
-/// A law: after a change a record has its new alternatives if it is named, and else those that it
-/// had.
+/// A law: after a change, a record has its new alternatives if it was changed. Otherwise it has its
+/// old ones.
 pub fn record_after_change()
     ensures { (c : Changed) (s : State) (id : ℕ) → AreApart c.changed
         → ArePlaced c.changed (length s.tables)

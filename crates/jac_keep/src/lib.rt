@@ -1,4 +1,4 @@
-//! Keepers of a faceted state, and the work of one request over a keeper.
+//! Traits for keepers, the keeper in memory, and the writes of one request over a keeper.
 #![tactic(auto)]
 
 mod alteration;

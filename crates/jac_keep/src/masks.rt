@@ -1,4 +1,4 @@
-//! Alterations without the rows of records of which none has a value.
+//! Alterations, without the rows of records that have no row with a value.
 ghost use Rattle.std.specs.Prelude.{◌≡◌, ◌++◌, ◌∷◌, [], IfOk, OnOk};
 ghost use Rattle.std.specs.List.{list_any};
 ghost use Rattle.jac_keep.specs.Alterations.{AreApart};
@@ -10,7 +10,7 @@ use jac_rows::{Row, Rows};
 use jac_value::{Memory, Value};
 use std::alloc::Global;
 
-/// The alterations, each with its rows only if one of them has the value at the field.
+/// The alterations, each with its rows only if one of them has the value in the field.
 pub(crate) fn masked(
     alloc: Global,
     changed: &Alterations,

@@ -26,9 +26,9 @@ use jac_value::{Id, Memory, Txt, Value, copy_name, id_model};
 use std::alloc::Global;
 use std::marker::Model;
 
-/// A keeper in memory, which tells its state. A call fails where it is a listed one. Reads are the
-/// calls of `number`, `rows`, `rows_with`, `one`, `find` and `find_rows`; they are counted apart
-/// from the applies, a reshape among these, from 1.
+/// A keeper in memory. Its state is known. A call fails if its number is listed. The calls of
+/// `number`, `rows`, `rows_with`, `one`, `find` and `find_rows` are counted as reads, those of
+/// `apply` and `reshape` as applies. Both counts begin with 1.
 #[derive(Debug, Drop)]
 pub struct MemoryKeeper {
     called: bool,
@@ -36,7 +36,8 @@ pub struct MemoryKeeper {
     schema: Option<Txt>,
     name: Option<Txt>,
     state: State,
-    // Of the fields that `rows_with` was asked for, once it was. They change with their tables.
+    // The indexes of the fields that `rows_with` was called for. They are altered with their
+    // tables.
     indexes: Option<TableIndexes>,
     places: LastPlaces,
     fail_reads: Calls,
@@ -59,8 +60,8 @@ impl Model for MemoryKeeper {
 impl MemoryKeeper {
     ghost use Rattle.jac_keep.specs.KeeperState.{IsStored, attached_store, unattached_store};
 
-    /// A keeper that wasn't attached yet: it has what is stored under the schema, and without one a
-    /// new store.
+    /// A keeper that isn't attached. If there is a schema, the state is what is stored with it.
+    /// Otherwise the store is new.
     pub fn new(
         state: State,
         schema: Option<Txt>,
@@ -94,7 +95,7 @@ impl MemoryKeeper {
         }
     }
 
-    /// A keeper that may be called at once, without a schema.
+    /// A keeper that is attached without a name or a schema.
     pub fn attached(state: State, fail_reads: Calls, fail_applies: Calls) -> MemoryKeeper
         requires { IsSound state }
         ensures { result ≡ record {
@@ -135,7 +136,7 @@ impl MemoryKeeper {
     ghost use Rattle.jac_keep.specs.KeeperState.{read_fails, after_read};
     ghost use Rattle.jac_keep.specs.KeeperState.{apply_fails, after_apply};
 
-    // Counts a read, and stops it if it is listed.
+    // Counts a read, and fails if its number is listed.
     fn count_read(&mut self) -> Result<(), Stop>
         ensures left { self.new ≡ after_read self.old }
         ensures stopped { IsErrOf result Stop.Keeper ↔ IsTrue (read_fails self.old) }
@@ -151,7 +152,7 @@ impl MemoryKeeper {
         Ok(())
     }
 
-    // Counts an apply, and stops it if it is listed.
+    // Counts an apply, and fails if its number is listed.
     fn count_apply(&mut self) -> Result<(), Stop>
         ensures left { self.new ≡ after_apply self.old }
         ensures stopped { IsErrOf result Stop.Keeper ↔ IsTrue (apply_fails self.old) }
@@ -283,7 +284,7 @@ impl Keeper for MemoryKeeper {
 impl Vault for MemoryKeeper {
     ghost use Rattle.jac_keep.specs.KeeperState.{after_attach, after_refusal, after_apply, after_reshape, apply_fails, seen_keeper};
 
-    /// It never fails, and keeps the name without using it.
+    /// It never gives `Failed`. The name is kept, but not used.
     fn attach(&mut self, alloc: Global, name: Option<&Txt>, schema: &Txt) -> Result<(), AttachFault>
         requires first { self.old.store.called ≡ false }
         requires schema { (shapes : List ModelShape) × IsSchema schema.now shapes }
@@ -311,7 +312,7 @@ impl Vault for MemoryKeeper {
         }
     }
 
-    /// It is one of the applies.
+    /// It counts as an apply.
     fn reshape(&mut self, alloc: Global, change: &Change, schema: &Txt) -> Result<(), Stop>
         requires attached { IsTrue self.old.store.attached }
         requires schema { (shapes : List ModelShape) × IsSchema schema.now shapes
@@ -338,7 +339,7 @@ impl Vault for MemoryKeeper {
 }
 
 impl MemoryKeeper {
-    // A new store begins with what was made for it.
+    // Attaches a new store.
     fn begin(&mut self, name: Option<Txt>, made: Made)
         requires { IsSound (record self.old.state { tables = made.tables }) }
         ensures { self.new ≡ record self.old {
@@ -360,7 +361,7 @@ impl MemoryKeeper {
         self.attached = true;
     }
 
-    // What is stored stays.
+    // Attaches the store with what it has stored.
     fn reopen(&mut self, name: Option<Txt>)
         ensures { self.new ≡ record self.old {
           store = record {
@@ -377,14 +378,14 @@ impl MemoryKeeper {
     }
 }
 
-// What a new store keeps.
+// The schema and the tables of a new store.
 #[derive(Drop)]
 struct Made {
     schema: Txt,
     tables: Tables,
 }
 
-// What is to be kept for the schema beside what is stored: nothing where it is stored already.
+// The schema and the tables of a new store, or `None` if this schema is stored already.
 fn made_for(alloc: Global, stored: &Option<Txt>, schema: &Txt) -> Result<Option<Made>, AttachFault>
     requires { (shapes : List ModelShape) × IsSchema schema.now shapes }
     ensures known { IfOk result (λ made. made ≡ None → stored.now ≡ Some schema.now) }
@@ -424,7 +425,7 @@ fn new_tables(alloc: Global, schema: &Txt) -> Result<Tables, Memory>
     Ok(Tables::from_vec(widen(alloc, room, models)))
 }
 
-// How many models the schema has.
+// The number of models of the schema.
 fn count_models(alloc: Global, schema: &Txt) -> Result<usize, Memory>
     requires { (shapes : List ModelShape) × IsSchema schema.now shapes }
     ensures { IfOk result (λ models. (shapes : List ModelShape) → IsSchema schema.now shapes
@@ -436,8 +437,8 @@ fn count_models(alloc: Global, schema: &Txt) -> Result<usize, Memory>
     }
 }
 
-// All alternatives of each record of which one has the value at the field. The first question for a
-// field makes its index.
+// All alternatives of the records that have an alternative with the value in the field. The first
+// call for a field makes its index.
 fn find(
     alloc: Global,
     state: &State,
@@ -459,7 +460,7 @@ fn find(
     found
 }
 
-// The indexes, or none yet.
+// Takes the indexes. If there are none yet, they are empty.
 fn take_indexes(alloc: Global, indexes: &mut Option<TableIndexes>) -> TableIndexes
     ensures { (tables : List (List Seen)) → AreIndexesIfMade tables indexes.old
         → AreIndexesOf tables result }
@@ -470,7 +471,7 @@ fn take_indexes(alloc: Global, indexes: &mut Option<TableIndexes>) -> TableIndex
     }
 }
 
-// Copies of the rows of the record.
+// Copies of the record's rows.
 fn copy_of(alloc: Global, state: &State, id: Id) -> Result<Rows, Memory>
     requires { IsSound state.now }
     ensures { IfOk result (λ r. r ≡ alternatives id (rows_of state.now.tables (model_of_id id))) }
@@ -482,7 +483,7 @@ fn copy_of(alloc: Global, state: &State, id: Id) -> Result<Rows, Memory>
     Rows::from_slice(alloc, own)
 }
 
-// The rows of the record, which are sought near the place first.
+// The record's rows. They are sought near this place first.
 fn own_of(state: &State, id: Id, near: Place) -> &[Row]
     requires { IsSound state.now }
     ensures { result.now ≡ alternatives id (rows_of state.now.tables (model_of_id id)) }

@@ -1,4 +1,4 @@
-//! Tables whose rows are taken out, given room, altered and put back.
+//! Takes rows out of tables, makes room, alters them and puts them back.
 ghost use Rattle.std.specs.Prelude.{◌≡◌, ◌+◌, ◌-◌, ◌≤◌, ◌++◌, ◌∷◌, [], Bool, if◌then◌else◌, length, vec_len, vec_capacity, IfOk, OnOk, OnErr, IsTrue};
 ghost use Rattle.std.specs.List.{AllByRecursion};
 ghost use Rattle.jac_rows.specs.Good.{AreRising};
@@ -22,8 +22,8 @@ pub struct Opened {
     pub news: Vec<Alteration>,
 }
 
-/// Alters the tables, all or none of them. All memory is taken before the first row moves, and no
-/// row is copied but those that are new.
+/// Alters all of the tables or none. All memory is taken before the first row moves, and only the
+/// new rows are copied.
 pub fn alter_tables(alloc: Global, tables: &mut Tables, changed: &Alterations) -> Result<(), Memory>
     requires rising { AreTables tables.old }
     requires stay { AreTables (overlaid changed.now tables.old) }
@@ -33,7 +33,7 @@ pub fn alter_tables(alloc: Global, tables: &mut Tables, changed: &Alterations) -
     reshape_tables(alloc, tables, changed, 0)
 }
 
-/// The same, and empty tables are added until there are so many.
+/// The same, and then empty tables are added until there are this many.
 pub fn reshape_tables(
     alloc: Global,
     tables: &mut Tables,
@@ -61,7 +61,7 @@ pub fn reshape_tables(
     }
 }
 
-/// The tables, and empty ones after them until there are so many. It takes no memory.
+/// The tables, with empty ones added until there are this many. It takes no memory.
 pub fn widen(alloc: Global, tables: Vec<Table>, models: usize) -> Vec<Table>
     requires { models ≤ vec_capacity tables }
     ensures { result.items ≡ tables.items ++ empties (models - length tables.items) }
@@ -73,7 +73,7 @@ pub fn widen(alloc: Global, tables: Vec<Table>, models: usize) -> Vec<Table>
     tables
 }
 
-// The tables' rows and copies of the alterations, and whether there was memory for all.
+// The tables' rows and copies of the alterations, and whether there was enough memory for all.
 fn open_all(
     alloc: Global,
     tables: Vec<Table>,
@@ -95,7 +95,7 @@ fn open_all(
     (all, ready)
 }
 
-// The table's rows and copies of the alterations, and whether there was memory.
+// The table's rows and copies of its alterations, and whether there was enough memory.
 fn open(alloc: Global, table: Table, model: usize, changed: &[Alteration]) -> (Opened, bool)
     ensures rows { result.0.rows.items ≡ table }
     ensures ready { IsTrue result.1 → IsReadyTable model changed.now result.0 }
@@ -110,7 +110,7 @@ fn open(alloc: Global, table: Table, model: usize, changed: &[Alteration]) -> (O
     }
 }
 
-// The tables after their alterations if these are ready, else as they were.
+// The tables after their alterations if these are ready. Otherwise the tables as they were.
 fn close_all(opened: Vec<Opened>, ready: bool, closed: Vec<Table>) -> Vec<Table>
     requires empty { closed.items ≡ [] }
     requires room { length opened.items ≤ vec_capacity closed }
@@ -126,7 +126,7 @@ fn close_all(opened: Vec<Opened>, ready: bool, closed: Vec<Table>) -> Vec<Table>
     tables
 }
 
-// The table after its alterations if these are ready, else as it was.
+// The table after its alterations if these are ready. Otherwise the table as it was.
 fn close(opened: Opened, ready: bool) -> Table
     requires can { IsTrue ready → CanPlace opened }
     requires rising { AreRising (if ready then placed_each opened.news.items opened.rows.items

@@ -1,4 +1,4 @@
-//! Alterations put in place among rows by rising id.
+//! Puts alterations in place among rows by rising id.
 ghost use Rattle.std.specs.Prelude.{◌≡◌, ◌+◌, ◌≤◌, ◌++◌, ◌∷◌, [], vec_len, vec_capacity, IfOk, OnOk};
 ghost use Rattle.jac_keep.specs.Records.{AreOrdered, are_in_order};
 ghost use Rattle.jac_keep.specs.Alterations.{AreOwn, altered_rows, of_model, placed_each, brought};
@@ -41,7 +41,7 @@ pub fn is_in_order(rows: &[Row]) -> bool
     true
 }
 
-// The same, of rows whose ids don't fall.
+// The same, for rows with ids that don't fall.
 fn alter_ordered(
     alloc: Global,
     changed: &[Alteration],
@@ -57,7 +57,7 @@ fn alter_ordered(
     Ok(place_each(rows, news))
 }
 
-/// Copies of the alterations of the model's records, with room for their rows.
+/// Copies of the alterations of the model's records. It also makes room for their rows.
 pub fn prepare(
     alloc: Global,
     rows: &mut Vec<Row>,
@@ -102,7 +102,7 @@ fn add_if_of(
     Ok(())
 }
 
-// How many rows the alterations bring.
+// The number of rows that the alterations contain.
 fn count_brought(news: &[Alteration]) -> Result<usize, Memory>
     ensures { IfOk result (λ n. n ≡ brought news.now) }
 {
@@ -115,7 +115,7 @@ fn count_brought(news: &[Alteration]) -> Result<usize, Memory>
     Ok(count)
 }
 
-/// The rows after the alterations, for which there is room.
+/// The rows after the alterations. There must be room for the new rows.
 pub fn place_each(rows: Vec<Row>, news: Vec<Alteration>) -> Vec<Row>
     requires ordered { AreOrdered rows.items }
     requires own { AreOwn news.items }

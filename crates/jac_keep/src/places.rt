@@ -1,4 +1,4 @@
-//! Where a record's rows stand in its table, found by bisection.
+//! Finds a record's rows in its table by bisection.
 ghost use Rattle.std.specs.Prelude.{◌≡◌, ◌+◌, ◌≤◌, true, false, IsTrue, nat_lt, nat_le, not, length, take, drop};
 ghost use Rattle.std.specs.List.{AllWithin};
 ghost use Rattle.std.specs.List.Sorted.{IsPartitionPoint};
@@ -8,8 +8,8 @@ ghost use Rattle.jac_keep.specs.Records.{AreOrdered, with_id, alternatives, befo
 use jac_rows::Row;
 use jac_value::Id;
 
-/// Where a record's rows stand, or where they would: how many rows stand before them, and how many
-/// they are.
+/// The place of a record's rows, or the place where they are to be inserted: the number of rows
+/// before them, and the number of the record's rows.
 #[derive(Debug, Clone, Copy)]
 pub struct Place {
     pub start: usize,
@@ -30,7 +30,7 @@ pub fn place_in(rows: &[Row], id: Id) -> Place
     Place { start, count }
 }
 
-/// How many rows have lesser ids.
+/// The number of rows with lesser ids.
 pub fn count_below(rows: &[Row], id: Id) -> usize
     ensures within { result ≤ length rows.now }
     ensures low { AreOrdered rows.now → take result rows.now ≡ before id rows.now }
@@ -40,7 +40,7 @@ pub fn count_below(rows: &[Row], id: Id) -> usize
     rows.partition_point(|row| row.id < id)
 }
 
-/// How many rows have no greater ids.
+/// The number of rows with ids that aren't greater.
 pub fn count_through(rows: &[Row], id: Id) -> usize
     ensures within { result ≤ length rows.now }
     ensures low { AreOrdered rows.now → take result rows.now ≡ with_id (λ i. nat_le i id) rows.now }
@@ -50,7 +50,7 @@ pub fn count_through(rows: &[Row], id: Id) -> usize
     rows.partition_point(|row| row.id <= id)
 }
 
-/// The record's rows, which are sought near a place first.
+/// The record's rows. They are sought near this place first.
 pub fn own_near(rows: &[Row], id: Id, near: Place) -> &[Row]
     ensures { AreOrdered rows.now → result.now ≡ alternatives id rows.now }
 {
@@ -60,7 +60,7 @@ pub fn own_near(rows: &[Row], id: Id, near: Place) -> &[Row]
     own
 }
 
-/// The place of a record's rows. The one near by is tried first, and the one after that.
+/// The place of a record's rows. `near` is tried first, then the place behind it.
 pub fn place_near(rows: &[Row], id: Id, near: Place) -> Place
     ensures within { result.start + result.count ≤ length rows.now }
     ensures own { AreOrdered rows.now
@@ -72,7 +72,7 @@ pub fn place_near(rows: &[Row], id: Id, near: Place) -> Place
     Place { start, count }
 }
 
-// How many rows have lesser ids.
+// The number of rows with lesser ids.
 fn start_near(rows: &[Row], id: Id, near: Place) -> usize
     ensures within { result ≤ length rows.now }
     ensures low { AreOrdered rows.now → take result rows.now ≡ before id rows.now }
@@ -89,7 +89,7 @@ fn start_near(rows: &[Row], id: Id, near: Place) -> usize
     count_below(rows, id)
 }
 
-// How many rows have no greater ids.
+// The number of rows with ids that aren't greater.
 fn end_near(rows: &[Row], id: Id, near: usize) -> usize
     ensures within { result ≤ length rows.now }
     ensures low { AreOrdered rows.now → take result rows.now ≡ with_id (λ i. nat_le i id) rows.now }
@@ -100,7 +100,7 @@ fn end_near(rows: &[Row], id: Id, near: usize) -> usize
     count_through(rows, id)
 }
 
-// Whether the rows before the place are those of lesser ids.
+// Whether the rows before the place are those with lesser ids.
 fn is_start(rows: &[Row], id: Id, place: usize) -> bool
     ensures within { IsTrue result → place ≤ length rows.now }
     ensures point { IsTrue result → AreOrdered rows.now → IsPartitionPoint
@@ -118,7 +118,7 @@ fn is_start(rows: &[Row], id: Id, place: usize) -> bool
     rows[place].id >= id
 }
 
-// Whether the row before the place is of a lesser id.
+// Whether there is no row before the place, or it has a lesser id.
 fn is_below(rows: &[Row], id: Id, place: usize) -> bool
     requires { place ≤ length rows.now }
     ensures { IsTrue result → AreOrdered rows.now
@@ -130,7 +130,7 @@ fn is_below(rows: &[Row], id: Id, place: usize) -> bool
     rows[place - 1].id < id
 }
 
-// Whether the rows before the place are those of no greater ids.
+// Whether the rows before the place are those with ids that aren't greater.
 fn is_end(rows: &[Row], id: Id, place: usize) -> bool
     ensures within { IsTrue result → place ≤ length rows.now }
     ensures point { IsTrue result → AreOrdered rows.now → IsPartitionPoint
@@ -148,7 +148,7 @@ fn is_end(rows: &[Row], id: Id, place: usize) -> bool
     rows[place].id > id
 }
 
-// Whether the row before the place is of no greater id.
+// Whether there is no row before the place, or its id isn't greater.
 fn is_through(rows: &[Row], id: Id, place: usize) -> bool
     requires { place ≤ length rows.now }
     ensures { IsTrue result → AreOrdered rows.now

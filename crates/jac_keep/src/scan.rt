@@ -1,4 +1,4 @@
-//! The records of a table of which an alternative has a cell, by a scan that copies no other row.
+//! Finds the records of a table that have an alternative with a given cell. No other row is copied.
 ghost use Rattle.std.specs.Prelude.{◌≡◌, ◌==◌, ◌&&◌, ◌||◌, ◌++◌, ◌∷◌, [], ℕ, IfOk, OnOk};
 ghost use Rattle.jac_world.specs.World.{shown_by};
 ghost use Rattle.jac_keep.specs.Records.{with_id};
@@ -9,7 +9,8 @@ use jac_rows::{Row, Rows};
 use jac_value::{Memory, Value};
 use std::alloc::Global;
 
-/// All alternatives of each record of which one has the value at the field, in their order.
+/// All alternatives of the records that have an alternative with the value in the field, in their
+/// order.
 pub fn holders(alloc: Global, rows: &[Row], field: u8, value: &Value) -> Result<Rows, Memory>
     ensures { IfOk result (λ found. found ≡ holders field value.now rows.now) }
 {
@@ -18,7 +19,7 @@ pub fn holders(alloc: Global, rows: &[Row], field: u8, value: &Value) -> Result<
     Ok(Rows::from_vec(found))
 }
 
-// The ids of the records of which an alternative has the value.
+// The ids of the records that have an alternative with the value in the field.
 fn holding(alloc: Global, rows: &[Row], field: u8, value: &Value) -> Result<RisingIds, Memory>
     ensures { IfOk result (λ ids. (k : ℕ) → shown_by ids k
         ≡ holds_cell field value.now rows.now k) }
@@ -44,7 +45,7 @@ fn add_if(ids: &mut RisingIds, row: &Row, field: u8, value: &Value) -> Result<()
     }
 }
 
-/// Whether the row has the value at the field.
+/// Whether the row has the value in the field.
 pub(crate) fn has_cell(row: &Row, field: u8, value: &Value) -> bool
     ensures { result ≡ has_cell field value.now row.now }
 {
@@ -54,7 +55,7 @@ pub(crate) fn has_cell(row: &Row, field: u8, value: &Value) -> bool
     }
 }
 
-// Copies of the rows whose ids are among these.
+// Copies of the rows with these ids.
 fn copies_of(alloc: Global, rows: &[Row], ids: &RisingIds) -> Result<Vec<Row>, Memory>
     ensures { IfOk result (λ v. v.items ≡ with_id (shown_by ids.now) rows.now) }
 {
@@ -65,7 +66,7 @@ fn copies_of(alloc: Global, rows: &[Row], ids: &RisingIds) -> Result<Vec<Row>, M
     Ok(found)
 }
 
-// Adds a copy of the row if its id is among these.
+// Adds a copy of the row if it has one of these ids.
 fn add_if_among(
     alloc: Global,
     found: &mut Vec<Row>,

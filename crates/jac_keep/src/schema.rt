@@ -13,13 +13,13 @@ use jac_tree::{Tree, TreeFault, Trees, is_up_to, is_word, print_tree, read_text,
 use jac_value::{Kind, Kinds, Memory, Txt, is_name};
 use std::alloc::Global;
 
-// The most models that a schema has.
+// The largest number of models in a schema.
 const MODEL_LIMIT: u8 = 64;
 
-/// The shape of the stores that have this schema, where the text is one: a printed tree `(schema
-/// (model NAME nested? (fields (NAME KIND) ..) (groups GROUP ..)) ..)` of at most 64 models, in
-/// which a KIND is `int`, `text`, `bool` or `(ref NAME)`, and a GROUP is `hides` or the list of the
-/// fields that it guards.
+/// The shape of the stores that have this schema, or `None` if the text isn't a schema. A schema is
+/// a printed tree `(schema (model NAME nested? (fields (NAME KIND) ..) (groups GROUP ..)) ..)` of
+/// at most 64 models. A KIND is `int`, `text`, `bool` or `(ref NAME)`. A GROUP is `hides` or the
+/// list of the fields that it guards.
 pub fn shape_of(alloc: Global, schema: &Txt) -> Result<Option<Shape>, Memory>
     ensures shape { IfOk result (λ found. IfSome found (λ shape. IsSchema schema.now
         (shapes_by shape.kinds shape.nested))) }
@@ -35,13 +35,13 @@ pub fn shape_of(alloc: Global, schema: &Txt) -> Result<Option<Shape>, Memory>
     }
 }
 
-/// A law, with nothing to run: a text is the schema of one list of shapes at most.
+/// A law, with nothing to run: a text is the schema of at most one list of shapes.
 pub fn one_schema()
     ensures { (text : List ℕ) (shapes others : List ModelShape) → IsSchema text shapes
         → IsSchema text others → shapes ≡ others }
 {}
 
-// A text that spells no tree of at most 64 levels is no schema.
+// A text is no schema if it isn't a tree of at most 64 levels.
 fn without_tree(fault: TreeFault) -> Result<Option<Shape>, Memory>
     ensures none { IfOk result (λ found. found ≡ None) }
     ensures spelled { IfOk result (λ _. ¬ (fault ≡ faults.Memory)) }
@@ -56,7 +56,7 @@ fn without_tree(fault: TreeFault) -> Result<Option<Shape>, Memory>
     }
 }
 
-// The shape that a tree gives, where the text is what it is printed as.
+// The shape that the tree gives, if the text is the printed form of the tree.
 fn shape_of_printed(alloc: Global, text: &Txt, tree: &Tree) -> Result<Option<Shape>, Memory>
     requires { nesting (plain tree.now) ≤ 64 }
     ensures { IfOk result (λ found. option_map (λ s. shapes_by s.kinds s.nested) found

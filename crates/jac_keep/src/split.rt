@@ -1,4 +1,4 @@
-//! Alterations of rows in any order, by one pass over the rows for each.
+//! Alters rows that are in any order, by one pass over the rows for each alteration.
 ghost use Rattle.std.specs.Prelude.{◌≡◌, ◌==◌, ◌++◌, ◌∷◌, [], if◌then◌else◌, IfOk, OnOk};
 ghost use Rattle.jac_value.specs.Ids.{model_of_id};
 ghost use Rattle.jac_keep.specs.Records.{before, behind, placed_rows};
@@ -26,7 +26,7 @@ pub fn alter_any(
     Ok(left)
 }
 
-// The rows of a model after one alteration, of whatever model.
+// The rows of a model after one alteration, which may be of another model.
 fn alter_if(
     alloc: Global,
     alteration: &Alteration,
@@ -44,7 +44,7 @@ fn alter_if(
     }
 }
 
-// The rows with these in place of the record's alternatives.
+// The rows after the new ones replace the record's alternatives.
 fn place_rows(alloc: Global, id: Id, new: &[Row], rows: Vec<Row>) -> Result<Vec<Row>, Memory>
     ensures { IfOk result (λ v. v.items ≡ placed_rows id new.now rows.items) }
 {
@@ -54,7 +54,7 @@ fn place_rows(alloc: Global, id: Id, new: &[Row], rows: Vec<Row>) -> Result<Vec<
     Ok(low)
 }
 
-// The rows before and after a record's place.
+// The rows with lesser ids, and those with greater ids.
 fn split_rows(alloc: Global, id: Id, rows: Vec<Row>) -> Result<(Vec<Row>, Vec<Row>), Memory>
     ensures low { IfOk result (λ p. p.0.items ≡ before id rows.items) }
     ensures high { IfOk result (λ p. p.1.items ≡ behind id rows.items) }
@@ -67,7 +67,7 @@ fn split_rows(alloc: Global, id: Id, rows: Vec<Row>) -> Result<(Vec<Row>, Vec<Ro
     Ok((low, high))
 }
 
-// Adds the row on its side of the record.
+// Adds the row to `low` or to `high`, unless it is of the record.
 fn add_row(low: &mut Vec<Row>, high: &mut Vec<Row>, id: Id, row: Row) -> Result<(), Memory>
     ensures low { OnOk result (low.new.items ≡ low.old.items ++ before id (row ∷ [])) }
     ensures high { OnOk result (high.new.items ≡ high.old.items ++ behind id (row ∷ [])) }

@@ -4,7 +4,7 @@ use std::alloc::{AllocError, AllocFailed};
 /// Why a call over a keeper stopped.
 #[derive(Clone, Copy, Debug, PartialEq, Eq)]
 pub enum Stop {
-    /// The keeper failed, and counted it.
+    /// The keeper failed, and counted a fault.
     Keeper,
     Memory,
 }

@@ -16,7 +16,8 @@ use jac_rows::{Row, Rows};
 use jac_value::{Ids, Memory, Value};
 use std::alloc::Global;
 
-/// The records of a table by the values of the fields that were asked for, each at its place.
+/// The records of a table by the values of fields. A field has an index after the first call of
+/// `find` for it.
 #[derive(Debug, Drop)]
 pub struct TableIndex {
     fields: Vec<Option<ByValue>>,
@@ -31,8 +32,8 @@ impl TableIndex {
         }
     }
 
-    /// All alternatives of each record of which one has the value at the field. The first question
-    /// for a field goes through the table.
+    /// All alternatives of the records that have an alternative with the value in the field. The
+    /// first call for a field goes through the whole table.
     pub fn find(
         &mut self,
         alloc: Global,
@@ -51,7 +52,7 @@ impl TableIndex {
         Ok(found)
     }
 
-    // Has an index of the field.
+    // Makes an index of the field, unless there is one.
     fn open(&mut self, alloc: Global, rows: &[Row], field: u8) -> Result<(), Memory>
         requires { IsIndexOf rows.now self.old }
         ensures right { IsIndexOf rows.now self.new }
@@ -79,7 +80,7 @@ impl TableIndex {
         }
     }
 
-    /// The index of the rows once the record is altered, with the same fields.
+    /// The index after the record is altered, with the same fields.
     pub fn altered(
         self,
         alloc: Global,

@@ -15,7 +15,7 @@ use jac_value::{Memory, Value, id_model};
 use std::alloc::Global;
 use std::collections::BTreeMap;
 
-/// The indexes of the tables that were asked for values.
+/// The indexes of the tables that values were sought in.
 #[derive(Debug, Drop)]
 pub struct TableIndexes {
     models: BTreeMap<u8, TableIndex>,
@@ -30,7 +30,8 @@ impl TableIndexes {
         }
     }
 
-    /// All alternatives of each record of the model of which one has the value at the field.
+    /// All alternatives of the records of the model that have an alternative with the value in the
+    /// field.
     pub fn find(
         &mut self,
         alloc: Global,
@@ -84,8 +85,8 @@ impl TableIndexes {
         }
     }
 
-    /// The index of the altered record's table, which had these rows, is one of the table once the
-    /// record is altered. An index of an empty table goes, and one for which memory lacks.
+    /// Updates the index of the altered record's table. `rows` are those before the alteration. The
+    /// index is dropped if the table was empty, or if there isn't enough memory.
     pub fn alter_one(
         &mut self,
         alloc: Global,
@@ -109,7 +110,7 @@ impl TableIndexes {
         }
     }
 
-    // Puts the index as it is once the record is altered, if the table isn't empty.
+    // Puts the index after the record is altered, unless the table is empty.
     fn put_altered(
         &mut self,
         alloc: Global,
@@ -135,7 +136,7 @@ impl TableIndexes {
         Ok(())
     }
 
-    /// The indexes of the tables of altered records are gone. It takes no memory.
+    /// Drops the indexes of the tables of altered records. It takes no memory.
     pub fn forget(&mut self, changed: &[Alteration])
         ensures left { (m : ℕ) → index_at m self.new ≡ (if alters m changed.now then None
             else index_at m self.old) }
@@ -147,7 +148,7 @@ impl TableIndexes {
         }
     }
 
-    /// The index of the model is gone. It takes no memory.
+    /// Drops the index of the model. It takes no memory.
     pub fn forget_one(&mut self, model: u8)
         ensures { (m : ℕ) → index_at m self.new ≡ (if model == m then None
             else index_at m self.old) }

@@ -13,7 +13,7 @@ use jac_rows::Tables;
 use jac_value::{Memory, id_model};
 use std::alloc::Global;
 
-/// Alters the tables, all or none of them, and their indexes, if there are any.
+/// Alters all of the tables or none, and their indexes, if there are any.
 pub fn alter_together(
     alloc: Global,
     tables: &mut Tables,
@@ -56,7 +56,7 @@ fn alter_both(
     }
 }
 
-// Alters the indexes of the tables, which are those before the alterations.
+// Alters the indexes of the tables. The tables are those before the alterations.
 fn alter_indexes(alloc: Global, tables: &Tables, indexes: &mut TableIndexes, changed: &Alterations)
     requires rising { AreTables tables.now }
     requires indexed { AreIndexesOf tables.now indexes.old }

@@ -14,10 +14,10 @@ use std::alloc::Global;
 /// Why a store wasn't attached.
 #[derive(Debug, Drop)]
 pub enum AttachFault {
-    /// The store failed, and counted it.
+    /// The store failed, and counted a fault.
     Failed,
     Memory,
-    /// Another schema is stored: this one.
+    /// The store has another schema, which is given.
     Other(Txt),
 }
 
@@ -29,9 +29,9 @@ impl From<Memory> for AttachFault {
     }
 }
 
-/// A keeper over a store, which is attached before it is called.
+/// A keeper over a store. It is attached before other calls.
 pub trait Vault: Keeper {
-    /// Opens the store of this name for states of this schema; without a name a store that lasts as
+    /// Opens the store of this name for states of this schema. Without a name, the store lasts as
     /// long as the program. A new store keeps the schema, and has one empty table for each of its
     /// models.
     fn attach(&mut self, alloc: Global, name: Option<&Txt>, schema: &Txt) -> Result<(), AttachFault>
@@ -40,9 +40,9 @@ pub trait Vault: Keeper {
         ensures { Attaches (Self.seen self.old) (Self.seen self.new) (option_copied name.entry)
             schema.now result };
 
-    /// Applies the change, keeps this schema from now on, and gives each model that it adds an
-    /// empty table, all or nothing. The change names records of the models that the store has; the
-    /// schema begins with these models.
+    /// Applies the change, stores this schema, and adds an empty table for each new model, all or
+    /// nothing. The change contains records of the models that the store has. The schema begins
+    /// with these models.
     fn reshape(&mut self, alloc: Global, change: &Change, schema: &Txt) -> Result<(), Stop>
         requires attached { IsTrue (Self.seen self.old).store.attached }
         requires schema { (shapes : List ModelShape) × IsSchema schema.now shapes

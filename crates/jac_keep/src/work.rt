@@ -18,16 +18,16 @@ use std::alloc::Global;
 /// The records that a request replaced so far, each with all its alternatives.
 pub type Overlay = Alterations;
 
-/// A keeper with replaced records over it, and the allocator of all that is made of them. It has a
-/// type parameter for the records, so that whoever let it go knows the keeper afterwards; `Work` is
-/// the form to use.
+/// A keeper with replaced records over it, and the allocator for what is made of them. The type
+/// parameter `O` for the records lets contracts know the keeper after the work is dropped. Use
+/// `Work` instead.
 pub struct WorkOver<'k, K: Keeper, O> {
     pub alloc: Global,
     pub keeper: &'k mut K,
     pub over: O,
 }
 
-/// One state: the keeper's, with the replaced records. The keeper's is never changed by it.
+/// The keeper's state, after the replaced records. The keeper's own state isn't changed.
 pub type Work<'k, K> = WorkOver<'k, K, Overlay>;
 
 impl<K: Keeper, O: Drop> Drop for WorkOver<'_, K, O> {
@@ -70,7 +70,8 @@ impl<'k, K: Keeper> WorkOver<'k, K, Overlay> {
         Ok(rows)
     }
 
-    /// All alternatives of each record of the model of which one has the value at the field.
+    /// All alternatives of the records of the model that have an alternative with the value in the
+    /// field.
     pub fn rows_with(&mut self, model: u8, field: u8, value: &Value) -> Result<Rows, Stop>
         requires { IsTrue (K.seen self.old.keeper.now).store.attached }
         ensures exact { IsTold K.seen self.new
@@ -104,7 +105,7 @@ impl<'k, K: Keeper> WorkOver<'k, K, Overlay> {
         }
     }
 
-    /// Where the alternatives of one record stand, if they are at hand.
+    /// The place of the record's alternatives, if they are in memory.
     pub fn look(&mut self, id: Id) -> Result<Option<Place>, Stop>
         requires { IsTrue (K.seen self.old.keeper.now).store.attached }
         ensures { ReadsWork K.seen self.old self.new result }
@@ -118,8 +119,8 @@ impl<'k, K: Keeper> WorkOver<'k, K, Overlay> {
         }
     }
 
-    /// The alternatives of one record, lent, if they are at hand. They are sought near the place
-    /// first, and found wherever they stand.
+    /// The record's alternatives, borrowed, if they are in memory. They are sought near this place
+    /// first, but found wherever they are.
     pub fn looked(&self, id: Id, near: Place) -> Option<&[Row]>
         ensures { IfSome result (λ rows. IsTold K.seen self.now
             → rows.now ≡ alternatives id (rows_of (state_of K.seen self.now).tables
@@ -131,7 +132,8 @@ impl<'k, K: Keeper> WorkOver<'k, K, Overlay> {
         }
     }
 
-    /// Whether the rows of the model are at hand. They aren't where a record of it was replaced.
+    /// Whether the rows of the model are in memory. They aren't if a record of the model was
+    /// replaced.
     pub fn look_rows(&mut self, model: u8) -> Result<bool, Stop>
         requires { IsTrue (K.seen self.old.keeper.now).store.attached }
         ensures { ReadsWork K.seen self.old self.new result }
@@ -143,7 +145,7 @@ impl<'k, K: Keeper> WorkOver<'k, K, Overlay> {
         Ok(found)
     }
 
-    /// All rows of the model, lent, if they are at hand.
+    /// All rows of the model, borrowed, if they are in memory.
     pub fn looked_rows(&self, model: u8) -> Option<&[Row]>
         ensures { IfSome result (λ rows. IsTold K.seen self.now
             → rows.now ≡ rows_of (state_of K.seen self.now).tables model) }
@@ -154,7 +156,8 @@ impl<'k, K: Keeper> WorkOver<'k, K, Overlay> {
         self.keeper.held_rows(model)
     }
 
-    /// Puts these rows in place of the record's alternatives. With no rows the record is gone.
+    /// Puts these rows in place of the record's alternatives. If there are no rows, the record is
+    /// deleted.
     pub fn replace(&mut self, id: Id, rows: Rows) -> Result<(), Stop>
         requires own { All (λ (r : Seen). r.id ≡ id) rows }
         requires a_table { IsTrue (K.seen self.old.keeper.now).tells

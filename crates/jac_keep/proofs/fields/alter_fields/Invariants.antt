@@ -2,7 +2,7 @@ use Rattle.std.proofs.Common.{◌≡◌, ◌<◌, ◌≤◌, ℕ, length}
 use Rattle.jac_keep.specs.Indexed.{field_index, IsFieldAfter}
 use Rattle.jac_keep.proofs.fields.alter_fields.Given as goal
 
--- the fields before this place are altered, and the others as they were
+-- The fields before this place are altered, and the others are as they were.
 abbrev pub invariant-fields : goal.invariant-fields
 invariant-fields l =
     record {

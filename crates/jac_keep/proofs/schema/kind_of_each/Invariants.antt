@@ -4,7 +4,7 @@ use Rattle.jac_keep.specs.Schema.{each_of, kind_of_field}
 use Rattle.jac_keep.proofs.SchemaLaws.{made_before}
 use Rattle.jac_keep.proofs.schema.kind_of_each.Given as goal
 
--- the kinds so far, before those of the rest, are those of all
+-- The kinds so far, followed by those of the rest, are the kinds of all fields.
 abbrev pub invariant-fields : goal.invariant-fields
 invariant-fields l =
     made_before l.kinds.items (each_of (kind_of_field (plain_all l.models)) (plain_all l.left))
