@@ -1,4 +1,4 @@
--- Bindings that fit stay so through an assignment, and where those beyond the outer ones are cut off.
+-- Bindings that fit still fit after an assignment, and after all but the outer ones are cut off.
 use Rattle.std.specs.Prelude.{pos}
 use Rattle.std.proofs.Common.{◌≡◌, refl, sym, ap, ◌∙◌, subst, ℕ, Bool, true, false, List, [], ◌∷◌, ◌++◌, length, take, Option, Some, None, option_map, if◌then◌else◌}
 use Rattle.std.proofs.lemmas.Bool.{and_parts}
@@ -17,7 +17,7 @@ use Rattle.jac_kind_laws.specs.Operands.{AreOneKind}
 use Rattle.jac_kind_laws.proofs.Names.{last_named, meaning_last, value_named}
 use Rattle.jac_kind_laws.proofs.Operands.{Known, of_kind}
 
--- the first of the bindings, as many as the outer ones
+-- The first bindings, as many as the outer ones.
 pub outer_bound : (ns more : List Named) (outer env : List Binding) → AreBound ns outer → AreBound (ns ++ more) env → AreBound ns (take (length outer) env)
 outer_bound [] more [] env g h = tt
 outer_bound [] more (c ∷ outer) env g h = absurd g
@@ -29,7 +29,7 @@ unbound_parts : (same later : Bool) → (if same then true else later) ≡ false
 unbound_parts true later h = cc
 unbound_parts false later h = (refl, h)
 
--- a name that is not bound again is the one found so far
+-- If a name isn't bound again, the name found so far is the innermost.
 last_unbound : (ns : List Named) (env : List Binding) (x : List ℕ) (o : Option Named) → AreBound ns env → binds x env ≡ false → last_named o ns x ≡ o
 last_unbound [] env x o g h = refl
 last_unbound (n ∷ ns) [] x o g h = absurd g
@@ -45,7 +45,7 @@ assigned_step n ns b env later x v true same g there here = (g.0, g.1, there ref
 assigned_step n ns b env later x v false true g there here = (g.0, here refl refl, g.2)
 assigned_step n ns b env later x v false false g there here = g
 
--- a value of the kind of the innermost is put in its place
+-- A value of the innermost name's kind is put in its place.
 assigned_bound : (ns : List Named) (env : List Binding) (x : List ℕ) (o : Option Named) (v : Value) → AreBound ns env
     → ((m : Named) → last_named o ns x ≡ Some m → Has m.meaning.kind v) → AreBound ns (with_value x v env)
 assigned_bound [] [] x o v g h = tt
@@ -62,7 +62,7 @@ assignee : (o : Option Named) (k : Option Kind) → is_assigned (option_map (λ 
 assignee None k h = cc
 assignee (Some n) k h = (n, refl, (and_parts n.meaning.by_let (has n.meaning.kind k) h).1)
 
--- an assignment of a value whose kind the name has
+-- An assignment of a value of the name's kind.
 pub assign_fits : (ns : List Named) (env : List Binding) (x : List ℕ) (k : Option Kind) (v : Value) (P : Type 0) → AreBound ns env → Known k v P → is_assigned (meaning_of ns x) k ≡ true
     → (AreOneKind (look env x) v × P) × AreBound ns (with_value x v env)
 assign_fits ns env x k v P g known h =

@@ -1,4 +1,4 @@
--- Where no two have one name, each is found by its own.
+-- If no two items have the same name, each is found by its name.
 use Rattle.std.specs.Prelude.{⊤}
 use Rattle.std.proofs.Common.{◌≡◌, refl, ap, ◌∙◌, subst, ℕ, ◌+◌, zero, suc, Bool, true, false, not, ◌&&◌, List, [], ◌∷◌, ◌++◌, slice_get, position, Some, if◌then◌else◌, append_assoc, arith}
 use Rattle.std.specs.List.{position_from}
@@ -16,7 +16,7 @@ module _ {X : Type 0} (name : X → List ℕ) where
   has_named x [] = false
   has_named x (y ∷ ys) = if same_text (name y) x then true else has_named x ys
 
-  -- each has another name than all before it
+  -- Each item has another name than all before it.
   abbrev AreNew : List X → List X → Type 0
   AreNew earlier [] = ⊤
   AreNew earlier (y ∷ ys) = (not (has_named (name y) earlier) ≡ true) × AreNew (earlier ++ y ∷ []) ys
@@ -78,10 +78,10 @@ models_new app earlier (m ∷ ms) h =
     let new = (and_parts (not (has_model m.name earlier)) _ p.0).0 in
     (subst (λ (b : Bool). not b ≡ true) (models_named m.name earlier) new, models_new app (earlier ++ m ∷ []) ms p.1)
 
--- a field of fields that are well is found by its name
+-- Each of a model's fields is found by its name.
 pub field_found : (ms : List Entity) (fs : List Field) (i : ℕ) (f : Field) → are_fields ms [] fs ≡ true → slice_get fs i ≡ Some f → field_place fs f.name ≡ Some i
 field_found ms fs i f h e = found_at name_of_field fs i f (fields_new ms [] fs h) e
 
--- a model of models that are well is found by its name
+-- Each of an application's models is found by its name.
 pub model_found : (app : Application) (ms : List Entity) (i : ℕ) (m : Entity) → are_models app [] ms ≡ true → slice_get ms i ≡ Some m → model_place ms m.name ≡ Some i
 model_found app ms i m h e = found_at name_of_model ms i m (models_new app [] ms h) e

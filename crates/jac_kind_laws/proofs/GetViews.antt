@@ -1,4 +1,4 @@
--- What may run in a view that answers GET writes nothing.
+-- No statement that a GET view may contain writes.
 use Rattle.std.proofs.Common.{◌≡◌, refl, ap, subst, ℕ, zero, suc, Bool, true, List, [], ◌∷◌, slice_get, IsTrue}
 use Rattle.std.specs.List.{AllByRecursion}
 use Rattle.std.proofs.lemmas.Bool.{and_parts, and_from}

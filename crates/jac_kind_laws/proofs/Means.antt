@@ -1,4 +1,4 @@
--- The value of an expression has its kind, and each operand the kind that its form wants.
+-- The value of an expression has its kind, and each operand has a kind that its operator accepts.
 use Rattle.std.proofs.Common.{◌≡◌, refl, subst, ℕ, true, not, ◌&&◌, ◌||◌, List, [], ◌∷◌, Option, Some, None, is_some, option_map}
 use Rattle.std.specs.List.{AllByRecursion}
 use Rattle.std.proofs.lemmas.Bool.{and_parts}
@@ -22,7 +22,7 @@ use Rattle.jac_kind_laws.proofs.Names.{name_fits}
 use Rattle.jac_kind_laws.proofs.SortKeys.{sort_fits}
 use Rattle.jac_kind_laws.proofs.Operands.{two_fits, pick_fits, word_fits, condition_of, order_of, count_fits, sum_fits, some_fits, first_fits}
 
--- the induction's claim for a part
+-- What the induction claims of a part.
 abbrev pub Claim : World → Expression → Type 0
 Claim w e = (s : Scope) (env : List Binding) (k : Kind) → Suits s w env → kind_of (in_world w s) e ≡ Some k → IsOfKind w env k e
 
@@ -68,7 +68,7 @@ pick_of_fits w s env c a b k g claim one other h =
     (λ j. one s env j g) (λ j. other s env j g) q.1 p.1 in
     (r.0, (C.0, r.1.0, C.1, r.1.1, r.1.2))
 
--- the expression has the kind at each tuple
+-- The expression has the kind at each tuple.
 each_fits : (w : World) (s : Scope) (env : List Binding) (bs : List Binder) (e : Expression) (k : Kind) (tuples : List (List ℕ)) → Suits s w env → Claim w e →
     has k (kind_of (within bs (in_world w s)) e) ≡ true → AllByRecursion (Refer w.models bs) tuples →
     AtEach bs env (λ inner. Has k (mean w e inner) × OperandsFit w e inner) tuples
@@ -82,7 +82,7 @@ tuples_in w s env bs g = tuples_refer w bs g.tables
 pub answers_in : (w : World) (s : Scope) (env : List Binding) (bs : List Binder) (c : Expression) (o : Order) → Suits s w env → AllByRecursion (Refer w.models bs) (answers_by w bs o (mean w c) env)
 answers_in w s env bs c o g = answers_all (Refer w.models bs) w bs o (mean w c) env (tuples_in w s env bs g)
 
--- a query's condition is a truth value at each tuple, which can be sorted
+-- A query's condition is a truth value at each tuple, and the tuples can be sorted.
 pub asked_fits : (w : World) (s : Scope) (env : List Binding) (bs : List Binder) (c : Expression) (o : Order) → Suits s w env → Claim w c
     → is_query (in_world w s) bs o (kind_of (within bs (in_world w s)) c) ≡ true → AskedFits w bs o (mean w c) (OperandsFit w c) env
 asked_fits w s env bs c o g claim h =
@@ -150,7 +150,7 @@ mutual
       let E = means w e s env Kind.Text g (has_is (kind_of (in_world w s) e) Kind.Text p.0) in
       (E.0, E.1, texts_fit w es s env g p.1)
 
--- over scopes of the same models
+-- The theorem for scopes with the models of the world.
 pub kinds_hold : (s : Scope) (w : World) (env : List Binding) (e : Expression) (k : Kind) → IsIn s w env → kind_of s e ≡ Some k → IsOfKind w env k e
 kinds_hold s w env e k g h =
     means w e s env k (record { bindings = g.bindings; this = g.this; viewer = g.viewer; tables = good_fit w.models w.tables g.tables })

@@ -1,4 +1,4 @@
--- Policies and public expressions of a well application.
+-- Policies and public expressions of a well-formed application.
 use Rattle.std.proofs.Common.{◌≡◌, refl, subst, ℕ, zero, suc, ◌==◌, Bool, true, false, not, ◌&&◌, ◌||◌, List, [], ◌∷◌, ◌++◌, slice_get, Option, Some, None, if◌then◌else◌, IsTrue}
 use Rattle.std.specs.List.{AllByRecursion}
 use Rattle.std.proofs.lemmas.Bool.{and_parts}
@@ -32,7 +32,7 @@ use Rattle.jac_kind_laws.proofs.SortKeys.{same_name}
 use Rattle.jac_kind_laws.proofs.Distinct.{field_found, model_found}
 use Rattle.jac_kind_laws.proofs.Means.{means}
 
--- a public expression is found among guards that are well
+-- A public expression that is found in a list of guards has its field's kind.
 guard_step : (app : Application) (m : Entity) (a : Assigned) (name : List ℕ) (same : Bool) (later : Option Expression) (e : Expression) → same_text a.field name ≡ same
     → has (field_kind app.models m.fields a.field) (kind_of (public_scope app m) a.value) ≡ true
     → (later ≡ Some e → has (field_kind app.models m.fields name) (kind_of (public_scope app m) e) ≡ true)
@@ -74,7 +74,7 @@ policy_well app m earlier (d ∷ gs) zero g h e =
     subst (λ (x : FieldGroup). has Kind.Bool (kind_of (policy_scope app m) x.policy) ≡ true) same (group_parts app m earlier d gs h).1
 policy_well app m earlier (d ∷ gs) (suc i) g h e = policy_well app m (earlier ++ d ∷ []) gs i g (group_parts app m earlier d gs h).2 e
 
--- a model of a well application
+-- A model of a well-formed application.
 model_well : (app : Application) (earlier ms : List Entity) (i : ℕ) (m : Entity) → are_models app earlier ms ≡ true → slice_get ms i ≡ Some m
     → (are_fields app.models [] m.fields ≡ true) × (are_groups app m [] m.groups ≡ true)
 model_well app earlier [] i m h e = cc
@@ -85,7 +85,7 @@ model_well app earlier (d ∷ ms) zero m h e =
     subst (λ (x : Entity). (are_fields app.models [] x.fields ≡ true) × (are_groups app x [] x.groups ≡ true)) same q
 model_well app earlier (d ∷ ms) (suc i) m h e = model_well app (earlier ++ d ∷ []) ms i m (and_parts _ (are_models app (earlier ++ d ∷ []) ms) h).1 e
 
--- `this` is a record of the model
+-- `this` refers to a record of the model.
 this_refers : (app : Application) (i id : ℕ) (m : Entity) → are_models app [] app.models ≡ true → slice_get app.models i ≡ Some m → is_id_of id i ≡ true
     → Has (reference_to app.models m.name) (value.Ref (Some id))
 this_refers app i id m h e g = rw (model_found app app.models i m h e) g
@@ -96,7 +96,7 @@ alone_fit P zero row h (suc i) = tt
 alone_fit P (suc m) row h zero = tt
 alone_fit P (suc m) row h (suc i) = alone_fit (λ n. P (suc n)) m row h i
 
--- the scope of a public expression
+-- The scope of a public expression.
 suits_public : (app : Application) (i id : ℕ) (cells : List Value) (m : Entity) → are_models app [] app.models ≡ true → slice_get app.models i ≡ Some m → is_id_of id i ≡ true
     → have_kinds (kinds_at app.models i) cells ≡ true → Suits (public_scope app m) (world_over app.models i id cells) []
 suits_public app i id cells m h e g fit = record {
@@ -140,7 +140,7 @@ model_fits app i id cells (Some m) h g fit e f =
     let m_well = model_well app [] app.models i m h e in
     field_fits app i id cells m f (slice_get m.fields f) (suits_public app i id cells m h e g fit) m_well.0 m_well.1 refl
 
--- the public expressions of a well application
+-- The public expressions of a well-formed application.
 pub models_fit : (app : Application) → are_models app [] app.models ≡ true → (i id : ℕ) (cells : List Value) → is_id_of id i ≡ true
     → have_kinds (kinds_at app.models i) cells ≡ true → PublicsFit app.models i id cells
 models_fit app h i id cells g fit f = model_fits app i id cells (slice_get app.models i) h g fit refl f
@@ -152,7 +152,7 @@ pub publics_fit : (app : Application) (m id : ℕ) (cells : List Value) → IsTr
     → have_kinds (kinds_at app.models m) cells ≡ true → PublicsFit app.models m id cells
 publics_fit app m id cells h = models_fit app (models_well app h) m id cells
 
--- policies
+-- Policies.
 id_step : (ms : List Entity) (m id : ℕ) (r : PlainRow) (same : Bool) (later : Option PlainRow) → (r.id == id) ≡ same → FitsModel ms m r → (stands later ≡ true → is_id_of id m ≡ true)
     → stands (if same then Some r else later) ≡ true → is_id_of id m ≡ true
 id_step ms m id r true later e here there h = subst (λ (n : ℕ). is_id_of n m ≡ true) ((Decides-eqb r.id id).0 e) here.of_model

@@ -1,4 +1,4 @@
--- A name that is looked up: the innermost that is bound, and its value.
+-- Looking up a name finds its innermost binding, and the value of this binding.
 use Rattle.std.proofs.Common.{◌≡◌, refl, sym, ap, ◌∙◌, subst, ℕ, Bool, true, false, List, [], ◌∷◌, Option, Some, None, option_map, if◌then◌else◌}
 use Rattle.jac_value.specs.declared.value.Kind.{Kind}
 use Rattle.jac_value.specs.declared.value.Value.{Value}
@@ -8,7 +8,7 @@ use Rattle.jac_plain.specs.Expressions.{look_from}
 use Rattle.jac_check.specs.Scope.{Named, innermost, meaning_of}
 use Rattle.jac_kind_laws.specs.Fits.{Has, AreBound}
 
--- the innermost of the names, as it stands in the list
+-- The innermost binding of the name in the list.
 abbrev pub last_named : Option Named → List Named → List ℕ → Option Named
 last_named found [] x = found
 last_named found (n ∷ ns) x = last_named (if same_text n.name x then Some n else found) ns x
@@ -17,7 +17,7 @@ meaning_if : (b : Bool) (n : Named) (o : Option Named) → (if b then Some n.mea
 meaning_if true n o = refl
 meaning_if false n o = refl
 
--- its meaning is the one that is found
+-- Its meaning is the one that is found.
 pub meaning_last : (o : Option Named) (ns : List Named) (x : List ℕ) → innermost (option_map (λ (z : Named). z.meaning) o) ns x ≡ option_map (λ (z : Named). z.meaning) (last_named o ns x)
 meaning_last o [] x = refl
 meaning_last o (n ∷ ns) x =
@@ -42,7 +42,7 @@ value_named (n ∷ ns) (b ∷ env) x o v g h m e =
 value_named [] (b ∷ env) x o v g h m e = absurd g
 value_named (n ∷ ns) [] x o v g h m e = absurd g
 
--- what a name is bound to has the kind of the innermost
+-- The value of a name has the kind of the innermost binding.
 pub name_fits : (ns : List Named) (env : List Binding) (x : List ℕ) (v : Value) (k : Kind) → AreBound ns env → option_map (λ m. m.kind) (meaning_of ns x) ≡ Some k → Has k (look_from v env x)
 name_fits ns env x v k g h =
     let found = kind_named_by (last_named None ns x) k (ap (λ m. option_map (λ z. z.kind) m) (sym (meaning_last None ns x)) ∙ h) in

@@ -1,4 +1,5 @@
--- What a form's kind says of its operands and of its value, where the values of the operands have their kinds.
+-- If the values of the operands have their kinds, so does the value of the expression, and its
+-- operator accepts the operands.
 use Rattle.std.specs.Prelude.{pos}
 use Rattle.std.proofs.Common.{◌≡◌, refl, sym, ◌∙◌, subst, ℕ, Bool, true, false, not, ◌&&◌, List, [], ◌∷◌, Option, Some, None, unwrap_or, length}
 use Rattle.std.specs.List.{AllByRecursion}
@@ -21,7 +22,7 @@ use Rattle.jac_kind_laws.specs.Operands.{AreBoth, AreOneKind, AreComparable, Two
 use Rattle.jac_kind_laws.proofs.Tests.{given_parts, has_is, alike_are, at_kind}
 use Rattle.jac_kind_laws.proofs.Tuples.{Refer}
 
--- where the kind is known, the value has it, and P
+-- If the kind is known, the value has it, and `P` holds.
 abbrev pub Known : Option Kind → Value → Type 0 → Type 0
 Known o v P = (k : Kind) → o ≡ Some k → Has k v × P
 
@@ -83,12 +84,12 @@ pick_fits c k x y a b P Q one other h e =
     let B = other k (s.2 ∙ sym s.1 ∙ e) in
     (picked c k a b A.0 B.0, ((k, (A.0, B.0)), A.1, B.1))
 
--- a word
+-- `this` or `viewer`.
 pub word_fits : (o : Option Kind) (id : Option ℕ) (k : Kind) → Refers o id → o ≡ Some k → Has k (value.Ref id)
 word_fits None id k g e = cc
 word_fits (Some j) id k g e = at_kind j k (value.Ref id) e g
 
--- queries
+-- Queries.
 pub condition_of : (s : Scope) (bs : List Binder) (o : Order) (x : Option Kind) → is_query s bs o x ≡ true → has Kind.Bool x ≡ true
 condition_of s bs o x h = (and_parts (has Kind.Bool x) (is_order s.models bs o) (and_parts (are_binders s.models [] bs) _ (and_parts (not s.is_public) _ h).1).1).0
 

@@ -1,4 +1,4 @@
--- What a request hands to a view fits.
+-- A request binds the parameters of a view to values of their kinds.
 use Rattle.std.proofs.Common.{◌≡◌, refl, ℕ, Bool, true, false, ◌&&◌, List, [], ◌∷◌, length, Option, Some, None, unwrap_or, if◌then◌else◌}
 use Rattle.std.specs.Str.Parse.{digits_value}
 use Rattle.jac_value.specs.Ids.{is_id_of}

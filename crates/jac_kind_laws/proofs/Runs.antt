@@ -1,4 +1,5 @@
--- No statement of a view that is well meets a wrong kind, and what it leaves fits again.
+-- No statement of a well-formed view meets a wrong kind, and the tables and bindings that it leaves
+-- fit again.
 use Rattle.std.proofs.Common.{◌≡◌, refl, subst, ℕ, zero, suc, ◌<◌, nat_lt, Bool, true, false, not, ◌&&◌, List, [], ◌∷◌, ◌++◌, length, slice_get, Option, Some, None, is_some, unwrap_or, IsTrue, arith}
 use Rattle.std.specs.List.{AllByRecursion}
 use Rattle.std.proofs.lemmas.Bool.{and_parts}
@@ -36,21 +37,21 @@ use Rattle.jac_kind_laws.proofs.Writes.{CanCreate, HasPublics, id_fits, new_draf
 use Rattle.jac_kind_laws.proofs.Models.{models_fit, models_well}
 use Rattle.jac_kind_laws.proofs.Bindings.{outer_bound, assign_fits}
 
--- the standing, over the models of the setting
+-- The standing, with the models of the setting.
 abbrev at : Setting → Standing → Standing
 at k st = record st { models = k.models }
 
--- the run is as the standing says, over tables that fit
+-- The names, the viewer and the tables of the run fit the standing.
 record Stands (st : Standing) (k : Setting) (r : Run) : Type 0 where
   names : AreBound st.names r.env
   viewer : IsViewer k.models st.viewers k.viewer
   tables : AreFit k.models r.tables
 
--- from wherever the standing holds, no wrong kind is met, and it holds again
+-- From each run that fits the standing, no wrong kind is met, and the run fits it again afterwards.
 abbrev Goes : Setting → Standing → (Run → Run) → (Run → Type 0) → Type 0
 Goes k st step Meets = (r : Run) → Stands st k r → Meets r × Stands st k (step r)
 
--- the scope of an expression of the statement
+-- The scope of an expression of the statement.
 suits : (k : Setting) (st : Standing) (r : Run) → Stands st k r → Suits (scope_at (at k st)) (world_of k r) r.env
 suits k st r g = record { bindings = g.names; this = tt; viewer = g.viewer; tables = g.tables }
 
@@ -60,7 +61,7 @@ known k st e r g kind h = means (world_of k r) e (scope_at (at k st)) r.env kind
 fits_as : (k : Setting) (st : Standing) (want : Kind) (e : Expression) (r : Run) → Stands st k r → has want (kind_here (at k st) e) ≡ true → FitsAs k want e r
 fits_as k st want e r g h = of_kind (kind_here (at k st) e) want (value_in k e r) (Fits k e r) (known k st e r g) h
 
--- the kind of a `let`
+-- The kind of a `let`.
 let_fits : (o : Option Kind) (v : Value) (P : Type 0) → Known o v P → is_some o ≡ true → Has (unwrap_or o Kind.Int) v × P
 let_fits None v P known h = cc
 let_fits (Some kind) v P known h = known kind refl
@@ -75,7 +76,7 @@ with_a_piece k st p r g = record { names = g.names; viewer = g.viewer; tables = 
 put_goes : (k : Setting) (st : Standing) (e : Expression) (p : Run → Piece) → is_some (kind_here (at k st) e) ≡ true → Goes k st (λ r. with_piece (p r) r) (Fits k e)
 put_goes k st e p h r g = ((bound_as k st e r g h).1, with_a_piece k st (p r) r g)
 
--- a body with more names bound, which are gone after it
+-- A body with more names, which are gone after it.
 scope_goes : (k : Setting) (st inner : Standing) (more : List Named) (env : List Binding) (body : Run → Run) (Meets : Run → Type 0)
     → inner.viewers ≡ st.viewers → inner.names ≡ st.names ++ more → Goes k inner body Meets
     → (r : Run) → Stands st k r → AreBound (st.names ++ more) env → Meets (with_env env r) × Stands st k (scoped_run env body r)
@@ -85,7 +86,7 @@ scope_goes k st inner more env body Meets same names goes r g h =
     let after : AreBound (st.names ++ more) (body (with_env env r)).env = subst (λ (ns : List Named). AreBound ns (body (with_env env r)).env) names B.1.names in
     (B.0, record { names = outer_bound st.names more r.env (body (with_env env r)).env g.names after; viewer = g.viewer; tables = B.1.tables })
 
--- a body after one name more
+-- A body with one more name.
 bind_goes : (k : Setting) (st : Standing) (x : List ℕ) (kind : Kind) (by_let : Bool) (v : Value) (body : Run → Run) (Meets : Run → Type 0) → Goes k (bind st x kind by_let) body Meets
     → (r : Run) → Stands st k r → Has kind v → Meets (with_env (r.env ++ binding x v ∷ []) r) × Stands st k (scoped_run (r.env ++ binding x v ∷ []) body r)
 bind_goes k st x kind by_let v body Meets goes r g h =
@@ -97,7 +98,7 @@ choice_goes : (k : Setting) (st : Standing) (c : Bool) (first second : Run → R
 choice_goes k st true first second First Second one two r g = one r g
 choice_goes k st false first second First Second one two r g = two r g
 
--- in a loop, around whatever record
+-- In a loop, around any record.
 around_goes : (k : Setting) (st : Standing) (around : Option ℕ) (step : Run → Run) (Meets : Run → Type 0) → Goes (record k { around = around }) st step Meets → Goes k st step Meets
 around_goes k st around step Meets goes r g =
     let B = goes r (record { names = g.names; viewer = g.viewer; tables = g.tables }) in
@@ -120,7 +121,7 @@ cells_fit k st fields (a ∷ rest) r g h =
     let p = and_parts (has (field_kind k.models fields a.field) (kind_here (at k st) a.value)) (are_kinds (scope_at (at k st)) fields rest) h in
     (fits_as k st (field_kind k.models fields a.field) a.value r g p.0, cells_fit k st fields rest r g p.1)
 
--- a new record, and the body after its name
+-- A new record, and the body with its name.
 create_goes : (k : Setting) (st : Standing) (x name : List ℕ) (place : Option ℕ) (site : ℕ) (cells : List Assigned) (body : Run → Run) (Meets : Run → Type 0)
     → CanCreate k → HasPublics k → site < 64 → model_place k.models name ≡ place → is_some place ≡ true → are_kinds (scope_at (at k st)) (fields_placed k.models place) cells ≡ true
     → Goes k (bind st x (Kind.Ref (unwrap_or place (length k.models))) false) body Meets
@@ -139,7 +140,7 @@ update_fits : (k : Setting) (st : Standing) (place : Option ℕ) (target : Value
 update_fits k st None target cells r g publics there h = cc
 update_fits k st (Some m) target cells r g publics there h = (cells_fit k st (fields_at k.models m) cells r g h, old_draft k m target cells r publics g.tables)
 
--- what an update and a delete leave
+-- What an update and a delete leave.
 update_stands : (k : Setting) (st : Standing) (place : Option ℕ) (target : Value) (cells : List Assigned) (r : Run) → Stands st k r → Stands st k (update_run k place target cells r)
 update_stands k st None target cells r g = g
 update_stands k st (Some m) target cells r g = record { names = g.names; viewer = g.viewer; tables = updated_fit k (Some m) target cells r g.tables }
@@ -220,7 +221,7 @@ mutual
       let R = body_goes k st rest ids publics (λ post. (and_parts (is_sited s) (are_sited rest) (sited post)).1) p.1 (leaves k s r) S.1 in
       ((S.0, R.0), R.1)
 
--- a view of a well application is well
+-- A view of a well-formed application is well-formed.
 page_well : (app : Application) (vs : List Page) (i : ℕ) (v : Page) → are_pages app vs ≡ true → slice_get vs i ≡ Some v → is_body (page_standing app v) v.body ≡ true
 page_well app [] i v h e = cc
 page_well app (u ∷ vs) zero v h e =
@@ -234,7 +235,7 @@ is_post : (m : Verb) → is_get m ≡ false → m ≡ Verb.Post
 is_post verbs.Get h = cc
 is_post verbs.Post h = refl
 
--- no run of a view of a well application meets a wrong kind
+-- No run of a view of a well-formed application meets a wrong kind.
 pub visits_fit : (w : ℕ → Bool) (app : Application) (t : PlainState) (visit : Visit) (v : Page) → IsTrue (is_well app) → IsVisit app t visit v
     → StatementsFit (setting_of w app t visit) v.body (begun t visit)
 visits_fit w app t visit v h g =

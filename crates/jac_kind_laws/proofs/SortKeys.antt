@@ -1,4 +1,5 @@
--- What answers are sorted by is read of a record of its binder's model: no two binders of a query have one name.
+-- The sort key of a query is read from a record of its binder's model, because no two binders of a
+-- query have the same name.
 use Rattle.std.specs.Prelude.{⊤, pos, Decides}
 use Rattle.std.proofs.Common.{◌≡◌, refl, sym, ◌∙◌, subst, ℕ, Bool, true, false, not, List, [], ◌∷◌, ◌++◌, Some, if◌then◌else◌}
 use Rattle.std.specs.List.{AllByRecursion}
@@ -29,7 +30,7 @@ look_more : (v : Value) (env : List Binding) (b : Binding) (x : List ℕ) → lo
 look_more v [] b x = refl
 look_more v (c ∷ env) b x = look_more (if same_text c.name x then c.bound_to else v) env b x
 
--- none of the binders has the name
+-- None of the binders has the name.
 abbrev AreOthers : List Binder → List ℕ → Type 0
 AreOthers [] x = ⊤
 AreOthers (b ∷ bs) x = (same_text b.name x ≡ false) × AreOthers bs x
@@ -52,19 +53,19 @@ unseen : (name y : List ℕ) (front seen : List (List ℕ)) → not (is_one_of n
 unseen name y [] seen h = (unseen_first (same_text y name) (is_one_of name seen) h).0
 unseen name y (z ∷ front) seen h = unseen name y front seen (unseen_first (same_text z name) (is_one_of name (front ++ y ∷ seen)) h).1
 
--- a name that has been seen is that of no later binder
+-- No later binder has a name that was seen before.
 others : (ms : List Entity) (y : List ℕ) (front seen : List (List ℕ)) (bs : List Binder) → are_binders ms (front ++ y ∷ seen) bs ≡ true → AreOthers bs y
 others ms y front seen [] h = tt
 others ms y front seen (b ∷ bs) h =
     let p = and_parts (not (is_one_of b.name (front ++ y ∷ seen))) _ h in
     (turned y b.name (unseen b.name y front seen p.0), others ms y (b.name ∷ front) seen bs (and_parts (is_model ms b.model) _ p.1).1)
 
--- no binder of the name follows
+-- No later binder has the name.
 model_past : (bs : List Binder) (x m : List ℕ) → AreOthers bs x → model_from m bs x ≡ m
 model_past [] x m g = refl
 model_past (b ∷ bs) x m g = rw g.0 (model_past bs x m g.1)
 
--- the binder of the name is this one, or one after it
+-- The binder with the name is this one or a later one.
 key_step : (ms : List Entity) (b : Binder) (bs : List Binder) (x m : List ℕ) (at_first later : Bool) (id : ℕ) (ids : List ℕ) (env : List Binding) (same : Bool) → same_text b.name x ≡ same
     → AreOthers bs b.name → Has (reference_to ms b.model) (value.Ref (Some id))
     → (later ≡ true → Has (reference_to ms (model_from m bs x)) (look (bound bs ids (env ++ binding b.name (value.Ref (Some id)) ∷ [])) x))

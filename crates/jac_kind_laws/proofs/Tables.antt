@@ -1,4 +1,5 @@
--- Tables that fit: each record's id is one of its model, and its cells have the kinds of the model's fields.
+-- Tables that fit: each record's id is an id of its model, and its cells have the kinds of the
+-- model's fields.
 use Rattle.std.specs.Prelude.{⊤, IsSomeAnd}
 use Rattle.std.proofs.Common.{◌≡◌, subst, ℕ, ◌+◌, ◌==◌, zero, suc, Bool, true, false, refl, List, [], ◌∷◌, Option, Some, None, is_some, slice_get, unwrap_or, if◌then◌else◌, arith}
 use Rattle.std.specs.List.{AllByRecursion}
@@ -26,7 +27,7 @@ pub all_with : {X : Type 0} (P Q : X → Type 0) → ((x : X) → P x → Q x) �
 all_with P Q f [] a = tt
 all_with P Q f (x ∷ xs) a = (f x a.0, all_with P Q f xs a.1)
 
--- the kinds of the fields of the model at this place
+-- The kinds of the fields of the model at this place.
 abbrev pub kinds_at : List Entity → ℕ → List Kind
 kinds_at ms m = kinds_of_fields ms (fields_at ms m)
 
@@ -40,7 +41,7 @@ AreRows ms m rows = AllByRecursion (FitsModel ms m) rows
 abbrev pub AreFit : List Entity → List (List PlainRow) → Type 0
 AreFit ms tables = (m : ℕ) → AreRows ms m (rows_of tables m)
 
--- good tables fit
+-- Good tables fit.
 cells_fit : (all ms : List Entity) (m id : ℕ) (cells : List Value) → IsSomeAnd (slice_get (shapes_of_models all ms) m) (λ s. IsShaped s id cells)
     → have_kinds (kinds_of_fields all (fields_at ms m)) cells ≡ true
 cells_fit all [] m id cells h = absurd h
@@ -62,7 +63,7 @@ good_fit ms tables g m =
     let start : 0 + m ≡ m = omega arith in
     subst (λ (n : ℕ). AreRows ms n (rows_of tables m)) start (rows_fit ms g.next 0 m tables g.good.1)
 
--- the record, where there is one, fits
+-- The record fits, if there is one.
 abbrev pub IsSomeRow : List Entity → ℕ → Option PlainRow → Type 0
 IsSomeRow ms m None = ⊤
 IsSomeRow ms m (Some r) = FitsModel ms m r
@@ -104,7 +105,7 @@ cell_named_kind : (w : World) (m : ℕ) (place : Option ℕ) (r : Option PlainRo
 cell_named_kind w m None r k g known h = cc
 cell_named_kind w m (Some f) r k g known h = at_kind (kind_at w.models (fields_at w.models m) f) k _ h (cell_there w.models m f r g)
 
--- a field that is read has its kind
+-- A field that is read has its kind.
 pub got_kind : (w : World) (place : Option ℕ) (field : List ℕ) (k : Kind) (v : Value) → AreFit w.models w.tables
     → is_some place ≡ true → is_field (fields_placed w.models place) field ≡ true → Some (field_kind w.models (fields_placed w.models place) field) ≡ Some k
     → Has k (got_of w place field v)
@@ -112,7 +113,7 @@ got_kind w None field k v g known has_field h = cc
 got_kind w (Some m) field k v g known has_field h =
     cell_named_kind w m (field_place (fields_at w.models m) field) (referred_record v (rows_of w.tables m)) k (referred_fits w.models m v (rows_of w.tables m) (g m)) has_field h
 
--- the ids of a model's records are references to it
+-- The ids of a model's records are references to the model.
 pub records_refer : (w : World) (place : Option ℕ) (n : ℕ) → AreFit w.models w.tables
     → AllByRecursion (λ (r : PlainRow). Has (Kind.Ref (unwrap_or place n)) (value.Ref (Some r.id))) (rows_at_place w.tables place)
 records_refer w None n g = tt

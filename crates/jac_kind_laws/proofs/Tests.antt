@@ -1,4 +1,4 @@
--- What the tests of kinds say.
+-- What it means that the tests of kinds succeed.
 use Rattle.std.proofs.Common.{◌≡◌, refl, ap, subst, ℕ, Bool, true, false, Option, Some, None, is_some}
 use Rattle.std.proofs.lemmas.Bool.Decides.{Decides-eqb}
 use Rattle.jac_value.specs.declared.value.Kind.{Kind}

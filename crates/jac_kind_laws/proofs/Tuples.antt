@@ -17,7 +17,7 @@ use Rattle.jac_check.specs.Scope.{Named, Scope, scope_name, named_binders, withi
 use Rattle.jac_kind_laws.specs.Fits.{Has, AreBound, Refers, IsViewer}
 use Rattle.jac_kind_laws.proofs.Tables.{AreFit, records_refer}
 
--- each id of the tuple refers to the model of its binder
+-- Each id of the tuple refers to its binder's model.
 abbrev pub Refer : List Entity → List Binder → List ℕ → Type 0
 Refer ms [] [] = ⊤
 Refer ms (b ∷ bs) (id ∷ ids) = Has (reference_to ms b.model) (value.Ref (Some id)) × Refer ms bs ids
@@ -100,18 +100,18 @@ bound_fits ms (b ∷ bs) (id ∷ ids) ns env g a =
 bound_fits ms [] (id ∷ ids) ns env g a = absurd a
 bound_fits ms (b ∷ bs) [] ns env g a = absurd a
 
--- the scope over the models of the world
+-- The scope with the models of the world.
 abbrev pub in_world : World → Scope → Scope
 in_world w s = record s { models = w.models }
 
--- the world and the bindings are as the scope says, over tables that fit
+-- The world and the bindings are as the scope says, and the tables fit.
 pub record Suits (s : Scope) (w : World) (env : List Binding) : Type 0 where
   pub bindings : AreBound s.names env
   pub this : Refers s.this w.this
   pub viewer : IsViewer w.models s.viewers w.viewer
   pub tables : AreFit w.models w.tables
 
--- after its binders, a query stands in the inner scope
+-- With the binders of a query bound, the inner scope fits.
 pub suits_within : (w : World) (s : Scope) (env : List Binding) (bs : List Binder) (ids : List ℕ) → Suits s w env → Refer w.models bs ids → Suits (within bs (in_world w s)) w (bound bs ids env)
 suits_within w s env bs ids g a = record {
   bindings = bound_fits w.models bs ids s.names env g.bindings a;

@@ -1,4 +1,4 @@
--- Tables that fit stay so through what a statement writes.
+-- Tables that fit still fit after a statement has written to them.
 use Rattle.std.proofs.Common.{◌≡◌, refl, ℕ, zero, suc, ◌<◌, ◌≤◌, ◌^◌, ◌==◌, nat_lt, Bool, true, false, if◌then◌else◌, List, [], ◌∷◌, length, Option, Some, None, arith}
 use Rattle.std.specs.Prelude.{slice_get, slice_set}
 use Rattle.std.specs.List.{AllByRecursion}
@@ -25,7 +25,7 @@ use Rattle.jac_kind_laws.specs.Runs.{DraftFits}
 use Rattle.jac_kind_laws.proofs.Tables.{FitsModel, AreRows, AreFit, IsSomeRow, referred_fits, kinds_at, default_has}
 use Rattle.jac_kind_laws.proofs.Tuples.{all_append}
 
--- a property of rows, through each step on a table
+-- A property of rows that each write to a table keeps.
 module _ (P : PlainRow → Type 0) where
   row_if : (b : Bool) (r : PlainRow) (rows : List PlainRow) → P r → AllByRecursion P rows → AllByRecursion P (if b then r ∷ rows else rows)
   row_if true r rows p a = (p, a)
@@ -54,7 +54,7 @@ module _ (P : PlainRow → Type 0) where
   without_all id [] a = tt
   without_all id (r ∷ rows) a = either_rows (r.id == id) rows (r ∷ without id rows) a.1 (a.0, without_all id rows a.1)
 
--- tables of which one is set
+-- The tables after one of them is set.
 table_set : (P : ℕ → List PlainRow → Type 0) (tables : List (List PlainRow)) (m : ℕ) (rows : List PlainRow) → ((i : ℕ) → P i (rows_of tables i)) → P m rows
     → (i : ℕ) → P i (rows_of (slice_set tables m rows) i)
 table_set P [] m rows all new i = all i
@@ -63,7 +63,7 @@ table_set P (t ∷ ts) zero rows all new (suc i) = all (suc i)
 table_set P (t ∷ ts) (suc m) rows all new zero = all zero
 table_set P (t ∷ ts) (suc m) rows all new (suc i) = table_set (λ n. P (suc n)) ts m rows (λ n. all (suc n)) new i
 
--- the cells of a draft
+-- The cells of a draft.
 default_kinds : (ms : List Entity) (fields : List Field) → have_kinds (kinds_of_fields ms fields) (default_cells ms fields) ≡ true
 default_kinds ms [] = refl
 default_kinds ms (f ∷ fields) = and_from _ _ (default_has (kind_named ms f.kind)) (default_kinds ms fields)
@@ -102,27 +102,27 @@ updated_kinds k m id sets r old h =
     let fields = fields_at k.models m in
     kinds_shielded k.models k.shown m id (is_set fields sets) (drafted_cells k.models fields (λ e. value_in k e r) sets old) (drafted_kinds k.models fields (λ e. value_in k e r) sets old h)
 
--- what a create asks of its setting: the number has ids, and so have the models
+-- What a create needs of its setting: the request's number has ids, and so have the models.
 pub record CanCreate (k : Setting) : Type 0 where
   pub some : 0 < k.number
   pub room : k.number < 2 ^ 40
   pub few : length k.models ≤ 64
 
--- over each record that fits, the public values do
+-- If the cells of a record fit, so do its public values.
 abbrev pub HasPublics : Setting → Type 0
 HasPublics k = (m id : ℕ) (cells : List Value) → is_id_of id m ≡ true → have_kinds (kinds_at k.models m) cells ≡ true → PublicsFit k.models m id cells
 
 bare : Entity
 bare = record { name = []; nested = false; fields = []; groups = [] }
 
--- the id of a new record is one of its model
+-- The id of a new record is an id of its model.
 pub id_fits : (k : Setting) (name : List ℕ) (site m : ℕ) → CanCreate k → site < 64 → model_place k.models name ≡ Some m → is_id_of (id_made k m site) m ≡ true
 id_fits k name site m ids h e =
     let within = (position-Some (λ (x : Entity). same_text x.name name) k.models m bare e).0 in
     (form_made k.number site m (id_made k m site) ids.some ids.room h (omega (arith, within, ids.few))
     (form_of (is_nested_at k.models m) k.around (record_id k.number site m))).is_one
 
--- the public values of a new record, and of one that is updated
+-- The public values of a new record, and of a record that is updated.
 pub new_draft : (k : Setting) (m id : ℕ) (sets : List Assigned) (r : Run) → HasPublics k → is_id_of id m ≡ true
     → DraftFits k m sets r (Some (plain_row id (default_cells k.models (fields_at k.models m))))
 new_draft k m id sets r publics h =

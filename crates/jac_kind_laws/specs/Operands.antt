@@ -1,4 +1,4 @@
--- Operands that fit: each has, wherever it is read, the kind that its form wants.
+-- Operands that fit: each has the kind that its form requires, wherever it is evaluated.
 use Rattle.std.specs.Prelude.{◌≡◌, ℕ, true, List, [], ◌∷◌, ⊤}
 use Rattle.std.specs.List.{AllByRecursion}
 use Rattle.jac_value.specs.declared.value.Kind.{Kind}
@@ -19,11 +19,11 @@ use Rattle.jac_kind_laws.specs.Fits.{Has}
 abbrev pub AreBoth : Kind → Value → Value → Type 0
 AreBoth k a b = Has k a × Has k b
 
--- two values of one kind
+-- Both values have the same kind.
 abbrev pub AreOneKind : Value → Value → Type 0
 AreOneKind a b = (k : Kind) × AreBoth k a b
 
--- two numbers or two texts
+-- Two numbers or two texts.
 abbrev pub AreComparable : Value → Value → Type 0
 AreComparable a b = (k : Kind) × (is_ordered k ≡ true) × AreBoth k a b
 
@@ -39,11 +39,11 @@ TwoFit op.Lt a b = AreComparable a b
 TwoFit op.And a b = AreBoth Kind.Bool a b
 TwoFit op.Or a b = AreBoth Kind.Bool a b
 
--- at each of the tuples, with the binders bound to their records
+-- `P` holds at each tuple, with the binders bound to its records.
 abbrev pub AtEach : List Binder → List Binding → (List Binding → Type 0) → List (List ℕ) → Type 0
 AtEach bs env P tuples = AllByRecursion (λ ids. P (bound bs ids env)) tuples
 
--- what answers are sorted by is read of a record of the binder's model
+-- The sort key is read from a record of the binder's model.
 abbrev pub SortFits : World → List Binder → Order → List ℕ → Type 0
 SortFits w bs orders.Key ids = ⊤
 SortFits w bs (orders.Up x f) ids = Has (reference_to w.models (model_of_binder bs x))
@@ -51,9 +51,8 @@ SortFits w bs (orders.Up x f) ids = Has (reference_to w.models (model_of_binder 
 SortFits w bs (orders.Down x f) ids = Has (reference_to w.models (model_of_binder bs x))
     (look (bound bs ids []) x)
 
--- a query, by the value of its condition and by what its condition's operands are asked: at each
--- tuple of records the condition is a truth value and its operands fit, and what answers are sorted
--- by can be read
+-- At each tuple of records, the query's condition is a truth value and its operands fit, and the
+-- sort key can be read.
 abbrev pub AskedFits : World → List Binder → Order → (List Binding → Value)
     → (List Binding → Type 0) → List Binding → Type 0
 AskedFits w bs o cond Fit env =
@@ -61,7 +60,7 @@ AskedFits w bs o cond Fit env =
     × AllByRecursion (SortFits w bs o) (tuples_from w bs ([] ∷ []))
 
 abbrev mutual
-  -- each operand, at each depth and at each tuple, has the kind that its form wants
+  -- Each operand, at each depth and at each tuple, has a kind that its operator accepts.
   pub OperandsFit : World → Expression → List Binding → Type 0
   OperandsFit w (Expression.int i) env = ⊤
   OperandsFit w (Expression.text t) env = ⊤
@@ -89,12 +88,12 @@ abbrev mutual
   OperandsFit w (Expression.any_of bs c o) env = AskedFits w bs o (mean w c) (OperandsFit w c) env
   OperandsFit w (Expression.first bs c o) env = AskedFits w bs o (mean w c) (OperandsFit w c) env
 
-  -- each part of a `cat` is a text
+  -- Each part of a `cat` is a text.
   pub TextsFit : World → Expressions → List Binding → Type 0
   TextsFit w Expressions.none env = ⊤
   TextsFit w (Expressions.more e es) env = Has Kind.Text (mean w e env) × OperandsFit w e env
       × TextsFit w es env
 
--- the value of the expression has the kind, and so has each operand the one that its form wants
+-- The value of the expression has the kind, and each operand has a kind that its operator accepts.
 abbrev pub IsOfKind : World → List Binding → Kind → Expression → Type 0
 IsOfKind w env k e = Has k (mean w e env) × OperandsFit w e env

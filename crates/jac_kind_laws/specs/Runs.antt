@@ -1,6 +1,5 @@
--- Runs of a view in which no wrong kind is met: each expression that a statement comes to has, with
--- the bindings and over the tables of that moment, the kind that the statement wants, and operands
--- that fit.
+-- Runs of a view without a wrong kind: each expression that a statement reaches has the kind that
+-- the statement requires, and operands that fit, with the bindings and tables at that point.
 use Rattle.std.specs.Prelude.{◌≡◌, ℕ, ◌<◌, ◌≤◌, ◌^◌, true, List, [], ◌∷◌, ◌++◌, length, slice_get, Option, Some, None, ⊤}
 use Rattle.jac_value.specs.declared.value.Kind.{Kind}
 use Rattle.jac_value.specs.declared.value.Value.{Value}
@@ -24,15 +23,15 @@ use Rattle.jac_kind_laws.specs.Fits.{AreBound, IsViewer}
 use Rattle.jac_kind_laws.specs.Operands.{AreOneKind, AskedFits, OperandsFit, IsOfKind}
 use Rattle.jac_kind_laws.specs.Publics.{PublicsFit}
 
--- an expression of any kind, read in the run
+-- The expression's operands fit, with the bindings and tables of the run. It may have any kind.
 abbrev pub Fits : Setting → Expression → Run → Type 0
 Fits k e r = OperandsFit (world_of k r) e r.env
 
--- an expression of this kind, read in the run
+-- The expression has this kind, and its operands fit, with the bindings and tables of the run.
 abbrev pub FitsAs : Setting → Kind → Expression → Run → Type 0
 FitsAs k want e r = IsOfKind (world_of k r) r.env want e
 
--- each cell is given a value of its field's kind
+-- Each cell is set to a value of its field's kind.
 abbrev pub CellsFit : Setting → List Field → List Assigned → Run → Type 0
 CellsFit k fields [] r = ⊤
 CellsFit k fields (a ∷ rest) r = FitsAs k (field_kind k.models fields a.field) a.value r
@@ -42,20 +41,20 @@ abbrev pub QueryFits : Setting → Question → Run → Type 0
 QueryFits k q r = AskedFits (world_of k r) q.binders q.order (mean (world_of k r) q.cond)
     (OperandsFit (world_of k r) q.cond) r.env
 
--- the record's draft has public values that fit; no record has none
+-- The public values of the record's draft fit, if there is a record.
 abbrev pub DraftFits : Setting → ℕ → List Assigned → Run → Option PlainRow → Type 0
 DraftFits k m cells r None = ⊤
 DraftFits k m cells r (Some old) = PublicsFit k.models m old.id
     (drafted_cells k.models (fields_at k.models m) (λ e. value_in k e r) cells old.cells)
 
--- the cells fit, and the public values of the record that the target refers to
+-- The cells fit, and so do the public values of the record to which the target refers.
 abbrev pub UpdateFits : Setting → Option ℕ → Value → List Assigned → Run → Type 0
 UpdateFits k None target cells r = ⊥
 UpdateFits k (Some m) target cells r = CellsFit k (fields_at k.models m) cells r
     × DraftFits k m cells r (referred_record target (rows_of r.tables m))
 
--- the cells fit, the public values of the new record do, and then the body does, with the name
--- bound to the record
+-- The cells fit, and so do the public values of the new record. So does the body, with the name
+-- bound to the record.
 abbrev pub CreateFits : Setting → List ℕ → Option ℕ → ℕ → List Assigned → (Run → Type 0) → Run
     → Type 0
 CreateFits k name None site cells Body r = ⊥
@@ -69,7 +68,7 @@ CreateFits k name (Some m) site cells Body r =
     × Body (with_env (made.env ++ binding name (value.Ref (Some id)) ∷ []) made)
 
 abbrev mutual
-  -- the statement, run from here, meets no wrong kind; a template is not met at all
+  -- The statement meets no wrong kind from this run on. A template never runs.
   pub StatementFits : Setting → Statement → Run → Type 0
   StatementFits k (Statement.put e) r = Fits k e r
   StatementFits k (Statement.escape e) r = Fits k e r
@@ -95,21 +94,21 @@ abbrev mutual
   StatementFits k (Statement.template t) r = ⊥
   StatementFits k (Statement.block body) r = StatementsFit k body r
 
-  -- statements, each in the run that the ones before it leave
+  -- Each statement fits in the run that the statements before it leave.
   pub StatementsFit : Setting → Statements → Run → Type 0
   StatementsFit k Statements.none r = ⊤
   StatementsFit k (Statements.more s rest) r = StatementFits k s r
       × StatementsFit k rest (leaves k s r)
 
--- the records that a view makes have ids: the request's number and the models do, and creates stand
--- at sites below 64
+-- The records that a view makes have ids: the request's number and the models are small enough, and
+-- the sites of the creates are below 64.
 pub record HasIds (models : List Entity) (number : ℕ) (body : Statements) : Type 0 where
   pub room : number < 2 ^ 40
   pub few : length models ≤ 64
   pub sited : are_sited body ≡ true
 
--- a visit of the view: the state is good, and what a POST makes has ids; each parameter is bound to
--- a value of its kind; and who asks is a record of the model of viewers, or nobody
+-- A visit of the view. The state is good, and the records that a POST makes have ids. Each
+-- parameter is bound to a value of its kind. The viewer is a record of the viewer model, or nobody.
 pub record IsVisit (app : Application) (t : PlainState) (visit : Visit) (v : Page) : Type 0 where
   pub view : slice_get app.views visit.view ≡ Some v
   pub state : IsGoodPlain (shapes_of app) t
@@ -117,6 +116,6 @@ pub record IsVisit (app : Application) (t : PlainState) (visit : Visit) (v : Pag
   pub params : AreBound (named_fields app.models v.params) visit.env
   pub viewer : IsViewer app.models app.viewer visit.viewer
 
--- where the run of a visit begins
+-- The run at the beginning of a visit.
 abbrev pub begun : PlainState → Visit → Run
 begun t visit = record { tables = t.tables; env = visit.env; pieces = [] }

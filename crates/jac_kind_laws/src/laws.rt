@@ -23,31 +23,33 @@ ghost use Rattle.jac_kind_laws.specs.Operands.{IsOfKind};
 ghost use Rattle.jac_kind_laws.specs.Publics.{PublicsFit};
 ghost use Rattle.jac_kind_laws.specs.Runs.{StatementsFit, IsVisit, begun};
 
-/// A law: over good tables, with bindings, `this` and `viewer` of the kinds that the scope gives
-/// them, the value of an expression has the kind that the checker finds, and each operand has the
-/// kind that its form wants.
+/// A law: if the tables are good, and bindings, `this` and `viewer` have the kinds that the scope
+/// gives them, the value of an expression has the kind that the checker finds, and each operand has
+/// a kind that its operator accepts.
 pub fn kinds_hold()
     ensures { (s : Scope) (w : World) (env : List Binding) (e : Expression) (k : Kind) →
         IsIn s w env → kind_of s e ≡ Some k → IsOfKind w env k e }
 {}
 
-/// A law: a view of a well application that answers GET leaves the tables, under all assignments.
+/// A law: a GET view of a well-formed application leaves the tables unchanged, under every
+/// assignment.
 pub fn get_leaves_tables()
     ensures { (w : ℕ → Bool) (app : Application) (t : PlainState) (visit : Visit) →
         IsTrue (is_well app) → method_in (slice_get app.views visit.view) ≡ Verb.Get →
         (run_of w app t visit).tables ≡ t.tables }
 {}
 
-/// A law: no statement that a visit of a view of a well application comes to meets a wrong kind,
-/// under any assignment.
+/// A law: no statement that a visit of a view of a well-formed application reaches meets a wrong
+/// kind, under any assignment.
 pub fn visits_fit()
     ensures { (w : ℕ → Bool) (app : Application) (t : PlainState) (visit : Visit) (v : Page) →
         IsTrue (is_well app) → IsVisit app t visit v →
         StatementsFit (setting_of w app t visit) v.body (begun t visit) }
 {}
 
-/// A law: the policy of a label of a well application, asked over a good state that has the label's
-/// record, is a truth value, and each of its operands has the kind that its form wants.
+/// A law: in a well-formed application, the policy of a label is a truth value if it is evaluated
+/// over a good state that has the label's record. Each of its operands has a kind that its operator
+/// accepts.
 pub fn policies_fit()
     ensures { (app : Application) (t : PlainState) (viewer : Option ℕ) (label : ℕ) (g : FieldGroup)
         →
@@ -57,9 +59,9 @@ pub fn policies_fit()
         IsOfKind (policy_world app t viewer (record_of_label label)) [] Kind.Bool g.policy }
 {}
 
-/// A law: over a record of a model of a well application, whose cells have the kinds of the model's
-/// fields, each public expression of the model has its field's kind, and each of its operands the
-/// kind that its form wants.
+/// A law: over a record of a well-formed application, whose cells have the kinds of its model's
+/// fields, each public expression of the model has its field's kind. Each operand has a kind that
+/// its operator accepts.
 pub fn publics_fit()
     ensures { (app : Application) (m id : ℕ) (cells : List Value) →
         IsTrue (is_well app) → is_id_of id m ≡ true →
@@ -73,7 +75,7 @@ pub fn parameters_fit()
         AreBound (named_fields models params) (parameters models params pairs) }
 {}
 
-/// A law: the viewer of a number is a record of the model of viewers, or nobody.
+/// A law: the viewer with this number is a record of the viewer model, or nobody.
 pub fn viewers_fit()
     ensures { (app : Application) (number : ℕ)
         → IsViewer app.models app.viewer (viewer_of app number) }

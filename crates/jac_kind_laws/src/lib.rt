@@ -1,5 +1,5 @@
-//! The laws that no wrong kind is met in a well application, and that a view which answers GET
-//! leaves the tables.
+//! Laws on kinds: in a well-formed application no expression gets a value of the wrong kind, and a
+//! view that answers GET leaves the tables unchanged.
 #![tactic(auto)]
 
 mod laws;
