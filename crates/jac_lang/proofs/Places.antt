@@ -1,4 +1,4 @@
--- A place in a list of the program's items is the place in the list of what they stand for.
+-- The place of an item in a list of the code is its place in the list of plain data.
 use Rattle.std.proofs.Common.{◌≡◌, ℕ, ◌+◌, Bool, not, nat_lt, cond, zero, suc, List, [], ◌∷◌, length, refl, sym, ◌∙◌, ap, Some, None}
 use Rattle.std.specs.Prelude.{position, slice_get}
 use Rattle.std.specs.List.{prefix_len, position_or_len}
@@ -30,7 +30,7 @@ group-place gs name = position-seen field_group_of groups_of refl (λ _ _. refl)
 pub length-entities : (ms : List ModelDef) → length (entities_of ms) ≡ length ms
 length-entities ms = length-seen entity_of entities_of refl (λ _ _. refl) ms
 
--- a model of the program and what it stands for have one place
+-- A model of the code and its plain data have the same place.
 pub entity-at : (ms : List ModelDef) (i : ℕ) (m : ModelDef) → slice_get ms i ≡ Some m → slice_get (entities_of ms) i ≡ Some (entity_of m)
 entity-at [] i m h = cc
 entity-at (x ∷ xs) zero m h = let same : x ≡ m = cc in ap (λ (y : ModelDef). Some (entity_of y)) same

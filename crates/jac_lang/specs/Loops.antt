@@ -4,26 +4,27 @@ use Rattle.jac_lang.specs.declared.queries.Binder.{Binder}
 use Rattle.jac_lang.specs.Lookup.{is_nested_named}
 use Rattle.jac_lang.specs.Syntax.{Entity, Statement, Statements}
 
--- the loops around a statement; of one alone whether a nested record may be made around each of its
--- answers
+-- The loops around a statement: none, one, or several. `one` says whether a nested record may be
+-- created for each tuple of the loop's query.
 pub data Loops : Type 0 where
   none : Loops
   one : Bool → Loops
   several : Loops
 
--- one binder, of a model that isn't nested
+-- Whether there is one binder, and its model isn't nested.
 abbrev pub is_flat : List Entity → List Binder → Bool
 is_flat models [] = false
 is_flat models (b ∷ []) = not (is_nested_named models b.model)
 is_flat models (b ∷ (c ∷ bs)) = false
 
--- the loops around the body of a `for` over these binders
+-- The loops around the body of a `for` over these binders.
 abbrev pub behind_for : List Entity → List Binder → Loops → Loops
 behind_for models bs Loops.none = Loops.one (is_flat models bs)
 behind_for models bs (Loops.one flat) = Loops.several
 behind_for models bs Loops.several = Loops.several
 
--- a model that isn't nested is created outside of loops, a nested one in one loop
+-- A record of a model that isn't nested is created outside of loops. A record of a nested model is
+-- created in one loop, which must be flat.
 abbrev pub may_create : Bool → Loops → Bool
 may_create false Loops.none = true
 may_create false (Loops.one flat) = false
@@ -33,7 +34,7 @@ may_create true (Loops.one flat) = flat
 may_create true Loops.several = false
 
 abbrev mutual
-  -- each create of the statement stands where it may
+  -- Each `create` of the statement is where it may be.
   pub is_placed : List Entity → Loops → Statement → Bool
   is_placed models loops (Statement.put e) = true
   is_placed models loops (Statement.escape e) = true

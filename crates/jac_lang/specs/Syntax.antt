@@ -1,5 +1,4 @@
 -- The syntax of the language, as plain data without pointers.
--- them.
 use Rattle.std.specs.Prelude.{ℕ, ℤ, Bool, true, false, List, Option}
 use Rattle.jac_lang.specs.declared.expressions.Op.{Op}
 use Rattle.jac_lang.specs.declared.field_kinds.Field.{Field}
@@ -8,7 +7,7 @@ use Rattle.jac_lang.specs.declared.queries.Order.{Order}
 use Rattle.jac_lang.specs.declared.pages.Verb.{Verb}
 
 mutual
-  -- an expression; a query inside one is its binders, its condition and its order
+  -- An expression. A query inside it is given by its binders, its condition and its order.
   pub data Expression : Type 0 where
     int : ℤ → Expression
     text : List ℕ → Expression
@@ -29,24 +28,24 @@ mutual
     any_of : List Binder → Expression → Order → Expression
     first : List Binder → Expression → Order → Expression
 
-  -- the parts of a `cat`
+  -- The parts of a `cat`.
   pub data Expressions : Type 0 where
     none : Expressions
     more : Expression → Expressions → Expressions
 
--- a query
+-- A query.
 pub record Question : Type 0 where
   pub binders : List Binder
   pub cond : Expression
   pub order : Order
 
--- a field and the expression that is to be its value
+-- A field, and the expression for its value.
 pub record Assigned : Type 0 where
   pub field : List ℕ
   pub value : Expression
 
 mutual
-  -- a statement
+  -- A statement.
   pub data Statement : Type 0 where
     put : Expression → Statement
     escape : Expression → Statement
@@ -62,38 +61,39 @@ mutual
     template : List ℕ → Statement
     block : Statements → Statement
 
-  -- statements, one after another
+  -- Statements, one after another.
   pub data Statements : Type 0 where
     none : Statements
     more : Statement → Statements → Statements
 
--- the fields that one policy guards, each with its public value; or it hides the whole record
+-- The fields that one policy guards, each with its public value. If `hides` is set, the policy
+-- hides the whole record.
 pub record FieldGroup : Type 0 where
   pub guards : List Assigned
   pub hides : Bool
   pub policy : Expression
 
--- a model; the records of a nested one are made in loops
+-- A model. Records of a nested model are created in loops.
 pub record Entity : Type 0 where
   pub name : List ℕ
   pub nested : Bool
   pub fields : List Field
   pub groups : List FieldGroup
 
--- a view
+-- A view.
 pub record Page : Type 0 where
   pub method : Verb
   pub path : List ℕ
   pub params : List Field
   pub body : Statements
 
--- an application
+-- An application.
 pub record Application : Type 0 where
   pub viewer : Option (List ℕ)
   pub models : List Entity
   pub views : List Page
 
--- the expression is `this`
+-- The expression is `this`.
 abbrev pub is_this : Expression → Bool
 is_this Expression.this = true
 is_this e = false

@@ -1,9 +1,9 @@
--- Statements in which no template stands.
+-- Statements and applications without templates.
 use Rattle.std.specs.Prelude.{◌&&◌, Bool, true, false, List, [], ◌∷◌}
 use Rattle.jac_lang.specs.Syntax.{Statement, Statements, Page}
 
 abbrev mutual
-  -- no template stands in the statement
+  -- The statement has no template.
   pub is_untemplated : Statement → Bool
   is_untemplated (Statement.bind x e body) = are_untemplated body
   is_untemplated (Statement.branch c first second) = are_untemplated first && are_untemplated second
@@ -17,7 +17,7 @@ abbrev mutual
   are_untemplated Statements.none = true
   are_untemplated (Statements.more s rest) = is_untemplated s && are_untemplated rest
 
--- no template stands in any view
+-- No view has a template.
 abbrev pub are_untemplated_views : List Page → Bool
 are_untemplated_views [] = true
 are_untemplated_views (v ∷ vs) = are_untemplated v.body && are_untemplated_views vs

@@ -1,6 +1,5 @@
--- What an application keeps that was read from its text, beside its shape: its names are names, its
--- paths are paths, its lists keep to their limits, and the sites of a view's `create` statements
--- are their places.
+-- What the text of an application guarantees besides its shape: names and paths are valid, lists
+-- are within their limits, and the sites of a view's `create` statements are 0, 1, 2 and so on.
 use Rattle.std.specs.Prelude.{◌≡◌, ℕ, ◌<◌, ◌≤◌, ◌^◌, List, [], ◌∷◌, ◌++◌, length, IfSome, IsTrue, nat_lt, not}
 use Rattle.std.specs.List.{All, range_with_len}
 use Rattle.jac_value.specs.Names.{is_name}
@@ -19,7 +18,7 @@ IsName name = IsTrue (is_name name)
 abbrev pub IsWrittenBinder : Binder → Type 0
 IsWrittenBinder b = IsName b.name × IsName b.model
 
--- one or more binders, up to `most`
+-- One or more binders, up to `most`.
 abbrev pub AreBinders : ℕ → List Binder → Type 0
 AreBinders most bs = (0 < length bs) × (length bs ≤ most) × All IsWrittenBinder bs
 
@@ -28,7 +27,7 @@ IsWrittenOrder orders.Key = Unit {0}
 IsWrittenOrder (orders.Up x f) = IsName x × IsName f
 IsWrittenOrder (orders.Down x f) = IsName x × IsName f
 
--- the query of a count or a sum has one binder
+-- The query of a `count` or a `sum` has one binder.
 abbrev mutual
   pub IsWrittenExpression : Expression → Type 0
   IsWrittenExpression (Expression.int i) = Unit {0}
@@ -90,7 +89,7 @@ abbrev mutual
   AreWrittenStatements Statements.none = Unit {0}
   AreWrittenStatements (Statements.more s ss) = IsWrittenStatement s × AreWrittenStatements ss
 
--- the sites of the `create` statements, in the order of the text
+-- The sites of the `create` statements, in the order of the text.
 abbrev mutual
   pub sites_in : Statement → List ℕ
   sites_in (Statement.put e) = []
@@ -120,7 +119,7 @@ IsWrittenKind (kinds.Ref m) = IsName m
 abbrev pub IsWrittenField : Field → Type 0
 IsWrittenField f = IsName f.name × IsWrittenKind f.kind
 
--- a group guards a field or more, or it hides the record
+-- A group guards one or more fields, or it hides the record.
 pub record IsWrittenGroup (g : FieldGroup) : Type 0 where
   pub some : nat_lt 0 (length g.guards) ≡ not g.hides
   pub guards : All IsWrittenAssigned g.guards
@@ -133,7 +132,7 @@ pub record IsWrittenModel (m : Entity) : Type 0 where
   pub few_groups : length m.groups ≤ 8
   pub groups : All IsWrittenGroup m.groups
 
--- the sites of a view are 0, 1, 2 and so on, at most 64 of them
+-- The sites of a view are 0, 1, 2 and so on. There are at most 64.
 pub record IsWrittenView (v : Page) : Type 0 where
   pub path : IsTrue (is_path v.path)
   pub params : All IsWrittenField v.params

@@ -6,7 +6,8 @@ use crate::Expr;
 use jac_value::Txt;
 use std::mem;
 
-/// A field and an expression: what the public sees of a guarded field, or what a `set` gives it.
+/// A field and an expression: the public value of a guarded field, or the value that a `set` gives
+/// the field.
 #[derive(Drop)]
 pub struct Public {
     pub field: Txt,
@@ -34,7 +35,7 @@ impl Drop for Publics {
 }
 
 impl Publics {
-    /// These fields turned round, before the others. It takes no memory.
+    /// These fields in reverse order, and then the others. It takes no memory.
     pub fn before(self, others: Publics) -> Publics
         ensures { assigned_of result ≡ turned_round (assigned_of self) (assigned_of others) }
     {

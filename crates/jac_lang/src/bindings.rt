@@ -1,6 +1,6 @@
 use jac_value::{List, Txt, Value};
 
-/// A name and what it stands for.
+/// A name in scope and its value.
 #[derive(Drop)]
 pub struct Binding {
     pub name: Txt,

@@ -18,8 +18,8 @@ pub enum Op {
     Or,
 }
 
-/// An expression. `Get` has the model and then the field; `Sum` adds the expression over the
-/// answers of the query; `AnyOf` tells whether there is an answer.
+/// An expression. `Get` has the model and then the field. `Sum` adds the values of the expression
+/// over the results of the query. `AnyOf` is true if the query has a result.
 #[cycle(expr)]
 #[derive(Drop)]
 pub enum Expr {
@@ -50,7 +50,8 @@ pub enum Exprs {
     More(Box<Expr>, Box<Exprs>),
 }
 
-/// The tuples of records at which the condition is true, in the order.
+/// A query. Its results are the tuples of records for which the condition is true, in the given
+/// order.
 #[cycle(expr)]
 #[derive(Drop)]
 pub struct Query {
@@ -75,7 +76,7 @@ impl Drop for Exprs {
 }
 
 impl Exprs {
-    /// These parts turned round, before the others. It takes no memory.
+    /// These parts in reverse order, and then the others. It takes no memory.
     pub fn before(self, others: Exprs) -> Exprs
         ensures { expressions_of result ≡ turned_onto (expressions_of self)
             (expressions_of others) }

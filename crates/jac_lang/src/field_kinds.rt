@@ -1,6 +1,6 @@
 use jac_value::{List, Txt};
 
-/// A kind as the text names it; a reference has the name of its model.
+/// A kind as the program's text names it. A reference has the name of its model.
 #[derive(Drop, PartialEq, Eq)]
 pub enum KindName {
     Int,

@@ -28,8 +28,8 @@ pub fn field_of(app: &App, model: u8, name: &Txt) -> Option<u8>
     }
 }
 
-/// The kind of a field, where a reference has the number of its model. A model's name that no model
-/// has counts as the number of the models.
+/// The kind of a field, in which a reference has the number of its model. If no model has the name,
+/// that is the number of models.
 pub fn kind_of(app: &App, model: u8, field: u8) -> Kind
     requires model { model < length app.now.models }
     requires field { field < length (fields_at (application_of app.now).models model) }
@@ -51,7 +51,7 @@ pub fn group_of(app: &App, model: u8, field: u8) -> Option<u8>
     group_for_name(&app.models, model, &field.name)
 }
 
-/// Whether the model of this name is nested; a name that no model has isn't.
+/// Whether the model of this name is nested. It is false if no model has the name.
 pub fn is_nested(app: &App, name: &Txt) -> bool
     ensures { result ≡ is_nested_named (application_of app.now).models name.now }
 {
@@ -61,7 +61,7 @@ pub fn is_nested(app: &App, name: &Txt) -> bool
     }
 }
 
-/// The number of the model's first group that hides its records.
+/// The number of the model's first group that hides its records, if there is one.
 pub fn hiding_group(app: &App, model: u8) -> Option<u8>
     requires { model < length app.now.models }
     ensures { result ≡ hiding_place (groups_at (application_of app.now).models model) }

@@ -8,7 +8,7 @@ pub enum Verb {
     Post,
 }
 
-/// A view: the page for the requests of its method whose path fits.
+/// A view: it answers the requests of its method with a path that matches.
 #[derive(Drop)]
 pub struct View {
     pub method: Verb,

@@ -12,15 +12,15 @@ pub struct Binder {
     pub model: Txt,
 }
 
-/// The binders of a query, the first the outermost.
+/// The binders of a query, the outermost first.
 
 pub enum Binders {
     End,
     More(Binder, Box<Binders>),
 }
 
-/// The order of a query's answers: as they are found, or by a field of a binder, rising or falling.
-/// The binder comes first.
+/// The order of a query's results: by the ids of their records, or by a field of a binder, rising
+/// or falling. `Up` and `Down` have the binder and then the field.
 #[derive(Drop)]
 pub enum Order {
     Key,
@@ -43,7 +43,7 @@ impl Drop for Binders {
 }
 
 impl Binders {
-    /// These binders turned round, before the others. It takes no memory.
+    /// These binders in reverse order, and then the others. It takes no memory.
     pub fn before(self, others: Binders) -> Binders
         ensures { binders_of result ≡ turned_round (binders_of self) (binders_of others) }
     {

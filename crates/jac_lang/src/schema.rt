@@ -5,8 +5,8 @@ use jac_value::Txt;
 use std::alloc::Global;
 use std::marker::Model;
 
-/// Fields that one policy guards, each with what the public sees of it; or the whole record, which
-/// stands only where the policy's label is shown.
+/// The fields that one policy guards, each with its public value. If `hides` is set, the policy
+/// guards the whole record, which is hidden unless the policy's label is shown.
 #[derive(Drop)]
 pub struct Group {
     pub guards: Publics,
@@ -20,11 +20,11 @@ pub struct Groups {
     groups: Vec<Group>,
 }
 
-/// A model: its records have these fields, at most 32.
+/// A model. Its records have these fields, at most 32.
 #[derive(Drop)]
 pub struct ModelDef {
     pub name: Txt,
-    /// Whether its records are made in loops, around records of another model.
+    /// Whether its records are created in loops, each for a record of another model.
     pub nested: bool,
     pub fields: Fields,
     pub groups: Groups,

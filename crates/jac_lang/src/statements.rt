@@ -6,9 +6,9 @@ use crate::{Expr, Publics, Query};
 use jac_value::Txt;
 use std::mem;
 
-/// A statement. `Put` adds a text to the page as it is, and `Esc` its HTML escape; the site of a
-/// `Create` is its place among those of its view. A `Template` is not expanded yet; a `Block` is
-/// what it expands to.
+/// A statement. `Put` appends a text to the page as it is, and `Esc` escapes it for HTML. The site
+/// of a `Create` is its place among the `Create`s of its view. A `Template` isn't expanded yet. A
+/// `Block` is the expansion of one.
 #[cycle(stmt)]
 #[derive(Drop)]
 pub enum Stmt {
@@ -33,7 +33,7 @@ pub enum Stmt {
     Block(Stmts),
 }
 
-/// Statements, in the order of their running.
+/// Statements, in the order in which they run.
 #[cycle(stmt)]
 pub enum Stmts {
     End,
@@ -56,7 +56,7 @@ impl Drop for Stmts {
 }
 
 impl Stmts {
-    /// These statements turned round, before the others. It takes no memory.
+    /// These statements in reverse order, and then the others. It takes no memory.
     pub fn before(self, others: Stmts) -> Stmts
         ensures { statements_of result ≡ body_onto (statements_of self) (statements_of others) }
     {
