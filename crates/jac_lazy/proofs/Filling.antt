@@ -1,4 +1,5 @@
--- What steady labels are filled up to is settled; and rounds fill, over plain lists.
+-- The labels that steady labels are filled up to are settled. Rounds fill labels up, over plain
+-- lists.
 use Rattle.std.proofs.Common.{◌≡◌, ◌∙◌, sym, refl, ap, subst, ℕ, ◌==◌, ◌||◌, Bool, true, false, true≢false, List, [], ◌∷◌, Option}
 use Rattle.std.proofs.lemmas.Bool.Decides.{Decides-eqb}
 use Rattle.jac_world.specs.World.{shown_by, IsAscending, with_number}
@@ -10,12 +11,12 @@ use Rattle.jac_shown_rows.specs.Consulted.{Agrees}
 use Rattle.jac_lazy.specs.Steady.{AlwaysForbids, IsSteady}
 use Rattle.jac_lazy.specs.Filled.{Adds, IsFilled}
 
--- a label more
+-- One more label.
 
 pub grown : (k : ℕ) (old : List ℕ) → shown_by (with_number k old) ≡ with_label k (shown_by old)
 grown k old i j = shown-inserted k old j i
 
--- the label isn't one that was consulted
+-- The label wasn't consulted.
 beside_if : (consulted : List ℕ) (k j : ℕ) (b s : Bool) → (k == j) ≡ b → shown_by consulted k ≡ false → shown_by consulted j ≡ true → s ≡ (b || s)
 beside_if consulted k j true s e hidden among = absurd (true≢false (sym among ∙ ap (shown_by consulted) (sym ((Decides-eqb k j).0 e)) ∙ hidden))
 beside_if consulted k j false s e hidden among = refl
@@ -26,7 +27,7 @@ agrees_added consulted v k old hidden agrees = record {
 }
 
 module _ (app : Application) (worlds : Worlds) (viewer : Option ℕ) (consulted : List ℕ) where
-  -- what stands while labels are added
+  -- The invariant while labels are added.
   record IsUnderway (labels now : List ℕ) : Type 0 where
     pub ascending : IsAscending now
     pub live : (k : ℕ) → shown_by now k ≡ true → IsLiveLabel app worlds k
@@ -53,7 +54,7 @@ module _ (app : Application) (worlds : Worlds) (viewer : Option ℕ) (consulted 
   still_shown k j true labels new e steady agrees s = refl
   still_shown k j false labels new e steady agrees s = sym (agrees.each j (steady.within j s)) ∙ s
 
-  -- what no assignment allows isn't allowed in the end
+  -- If some label is never allowed, some label isn't allowed in the end.
   forbids : (k : ℕ) (labels new : List ℕ) → IsSteady app worlds viewer consulted labels → Agrees consulted (shown_by labels) (shown_by new)
       → AlwaysForbids app worlds viewer consulted (with_label k (shown_by labels)) → ShowsForbidden app worlds viewer (with_label k (shown_by new))
   forbids k labels new steady agrees always = record {

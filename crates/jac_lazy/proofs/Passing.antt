@@ -1,4 +1,5 @@
--- What a pass over consulted labels leaves, once all that is remembered was consulted.
+-- The result of a pass over consulted labels, if all labels that cached results depend on were
+-- consulted.
 use Rattle.std.proofs.Common.{◌≡◌, ◌∙◌, refl, sym, ℕ, Bool, true, false, List, Option, Some, None}
 use Rattle.std.specs.Option.{is_some}
 use Rattle.jac_world.specs.World.{shown_by, IsAscending}
@@ -13,11 +14,11 @@ use Rattle.jac_resolve.specs.Live.{AreLiveOf}
 use Rattle.jac_lazy.specs.Steady.{AlwaysAllows, AlwaysForbids, IsSteady}
 
 module _ (app : Application) (worlds : Worlds) (viewer : Option ℕ) (answers : PolicyMemo) (consulted : List ℕ) (named : (k j : ℕ) → watches answers k j ≡ true → shown_by consulted k ≡ true) where
-  -- what is remembered is the same wherever the same of what was consulted is shown
+  -- The cached results are the same under assignments that agree about what was consulted.
   recalled_alike : AreWatched answers → (j : ℕ) (v w : ℕ → Bool) → Agrees consulted v w → recall answers j v ≡ recall answers j w
   recalled_alike watched j v w agree = watched.each j v w (λ k watching. agree.each k (named k j watching))
 
-  -- and so is what the policy answers, where that is remembered
+  -- So are the results of policies that are cached.
   answered_alike : AreRight app worlds viewer answers → AreWatched answers → (j : ℕ) (w v : ℕ → Bool) (b : Bool) → is_some (recall answers j w) ≡ true → is_allowed app (worlds w) viewer j ≡ b →
       Agrees consulted w v → is_allowed app (worlds v) viewer j ≡ b
   answered_alike right watched j w v b known is agree = by_answer (recall answers j w) refl known

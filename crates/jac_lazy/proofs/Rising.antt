@@ -1,4 +1,4 @@
--- Rising lists of which one shows what the other shows.
+-- Rising lists, of which one has all numbers of the other.
 use Rattle.std.proofs.Common.{◌≡◌, ◌∙◌, sym, refl, ap, arith, inl, inr, ℕ, ◌<◌, ◌≤◌, ◌==◌, ◌||◌, Bool, true, false, true≢false, List, [], ◌∷◌, length}
 use Rattle.std.proofs.lemmas.Bool.{or_left, cases_lt}
 use Rattle.std.proofs.lemmas.Bool.Decides.{nat_tests, Decides-eqb}
@@ -12,7 +12,8 @@ pub or_none : (a m : Bool) → m ≡ false → a ≡ (a || m)
 or_none true m none = refl
 or_none false m none = sym none
 
--- a rising list that shows what another one shows isn't shorter, and is that one where it isn't longer
+-- A rising list with all numbers of another one isn't shorter. If it isn't longer either, the two
+-- are equal.
 
 above_too : (j k : ℕ) (xs : List ℕ) → j < k → StartsAboveBy (λ x. x) k xs → StartsAboveBy (λ x. x) j xs
 above_too j k [] lt a = tt
@@ -27,14 +28,14 @@ hidden_below k (x ∷ xs) a r =
 first_shown : (x : ℕ) (xs : List ℕ) → shown_by (x ∷ xs) x ≡ true
 first_shown x xs = or_left (x == x) (shown_by xs x) (itself x)
 
--- what is shown after the first number is another one
+-- The numbers after the first one differ from it.
 behind_if : (x k : ℕ) (xs : List ℕ) (b s : Bool) → (x == k) ≡ b → IsAscending (x ∷ xs) → shown_by xs k ≡ true → (b || s) ≡ true → s ≡ true
 behind_if x k xs true s e a among h =
     let none : shown_by xs k ≡ false = ap (shown_by xs) (sym ((Decides-eqb x k).0 e)) ∙ hidden_below x xs a.0 a.1 in
     absurd (true≢false (sym among ∙ none))
 behind_if x k xs false s e a among h = h
 
--- where the first numbers are equal
+-- The first numbers are equal.
 behind : (x y : ℕ) (xs ys : List ℕ) → x ≡ y → IsAscending (x ∷ xs) → Grows (x ∷ xs) (y ∷ ys) → Grows xs ys
 behind x y xs ys same a grows = record {
   kept = λ k h. behind_if x k xs (x == k) (shown_by ys k) refl a h (ap (λ z. z == k || shown_by ys k) same ∙ grows.kept k (or_right (x == k) (shown_by xs k) h));
@@ -44,7 +45,7 @@ behind x y xs ys same a grows = record {
     or_right true b p = refl
     or_right false b p = p
 
--- where the first number of the second list is shown by the first list not at all
+-- The first number of the second list isn't in the first list.
 beside_if : (y k : ℕ) (xs : List ℕ) (b s : Bool) → (y == k) ≡ b → shown_by xs y ≡ false → shown_by xs k ≡ true → (b || s) ≡ true → s ≡ true
 beside_if y k xs true s e none among h = absurd (true≢false (sym among ∙ ap (shown_by xs) (sym ((Decides-eqb y k).0 e)) ∙ none))
 beside_if y k xs false s e none among h = h
@@ -52,7 +53,7 @@ beside_if y k xs false s e none among h = h
 beside : (y : ℕ) (xs ys : List ℕ) → shown_by xs y ≡ false → Grows xs (y ∷ ys) → Grows xs ys
 beside y xs ys none grows = record { kept = λ k h. beside_if y k xs (y == k) (shown_by ys k) refl none h (grows.kept k h) }
 
--- the second list is longer, or the same
+-- The second list is longer, or the two are equal.
 pub record IsLonger (xs ys : List ℕ) : Type 0 where
   pub longer : length xs ≤ length ys
   pub same : length ys ≤ length xs → xs ≡ ys

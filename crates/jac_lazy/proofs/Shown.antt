@@ -1,4 +1,4 @@
--- The page of a run, and what the last run of a page leaves.
+-- The page of a run, and the result of the last run of a page.
 use Rattle.std.proofs.Common.{◌≡◌, ◌∙◌, ap, subst, arith, ℕ, ◌<◌, ◌≤◌, ◌-◌, ◌^◌, Bool, true, List, [], length, Option, None, slice_get}
 use Rattle.jac_world.specs.World.{shown_by, IsAscending}
 use Rattle.jac_lang.specs.declared.application.App.{App}
@@ -22,14 +22,14 @@ use Rattle.jac_lazy.specs.Steady.{IsPageOf, IsSteady}
 use Rattle.jac_lazy.proofs.Passing.{passed_steady}
 use Rattle.jac_lazy.proofs.Rising.{grown_longer}
 
--- the page that was run, in no loop, is the interpreter's
+-- A page that was run outside of loops is the interpreter's.
 pub page_same : (app : App) (ctx : Ctx) (w : ℕ → Bool) (s : State) (env : List Binding) (view : ℕ) (body : Statements) → body ≡ body_in (slice_get (application_of app).views view) → ctx.number ≡ s.number →
     page_ran app (record ctx { around = None }) w s env body ≡ page w (application_of app) (project_at w s) (record { view = view; env = env; viewer = ctx.viewer })
 page_same app ctx w s env view body is number =
     ap (λ (b : Statements). page_ran app (record ctx { around = None }) w s env b) is
     ∙ ap (λ (n : ℕ). page_of (leaves_all (record { models = (application_of app).models; shown = w; viewer = ctx.viewer; number = n; around = None }) (body_in (slice_get (application_of app).views view)) (run_in w s env [])).pieces) number
 
--- where as much is consulted after a run as before it, nothing was added
+-- If as many labels are consulted after a run as before it, none was added.
 pub nothing_added : (start end : List ℕ) → IsAscending start → IsAscending end → Grows start end → length end ≡ length start → start ≡ end
 nothing_added start end rises rises_too grows same = (grown_longer start end rises rises_too grows).same (omega (arith, same))
 
@@ -45,12 +45,12 @@ counted_more start end one two rises rises_too grows first second =
     let longer : length start ≤ length end = (grown_longer start end rises rises_too grows).longer in
     omega (arith, first, second, longer)
 
--- where more is consulted after a run than before it, fewer numbers are left
+-- If more labels are consulted after a run than before it, fewer numbers are left.
 pub fewer_left : (start end : List ℕ) (one two : ℕ) → IsAscending start → IsAscending end → Grows start end → one ≡ length start → two ≡ length end → two < 2 ^ 64 → one < two →
     2 ^ 64 - length end < 2 ^ 64 - length start
 fewer_left start end one two rises rises_too grows first second below more = omega (arith, first, second, below, more)
 
--- a page stays one as more is consulted
+-- The page is still the same whatever else is shown after more labels are consulted.
 pub page_later : (app : Application) (before : Worlds) (old new labels : List ℕ) (visit : Visit) (it : Page) → Grows old new → IsPageOf app before old labels visit it → IsPageOf app before new labels visit it
 page_later app before old new labels visit it grows is = record {
   each = λ w agrees. is.each w (agrees_less (shown_by labels) w old new grows agrees);

@@ -1,4 +1,4 @@
--- Rounds that try the live labels fill up any labels as far as can be.
+-- Rounds that try the live labels fill up any labels.
 use Rattle.std.proofs.Common.{◌≡◌, ◌∙◌, ◌⊎◌, inl, inr, sym, refl, ap, subst, arith, ℕ, zero, suc, ◌+◌, ◌<◌, ◌≤◌, ◌==◌, ◌&&◌, ◌||◌, not, Bool, true, false, true≢false, if◌then◌else◌, List, [], ◌∷◌, ◌++◌, length, Option}
 use Rattle.std.specs.List.{list_all}
 use Rattle.std.proofs.lemmas.Bool.{and_parts, or_left, or_right}
@@ -15,7 +15,7 @@ use Rattle.jac_lazy.specs.Steady.{IsPageOf, IsSteady}
 use Rattle.jac_lazy.specs.Filled.{Adds, IsFilled, IsPageOfSettled, all_allowed, may_add, round, rounds, fill}
 use Rattle.jac_lazy.proofs.Filling.{grown, law_filled}
 
--- a test that all labels meet is met by each; one that they don't all meet fails at one
+-- If all labels pass a test, each of them does. If they don't, one of them fails.
 
 meets_if : (f : ℕ → Bool) (x k : ℕ) (same all rest : Bool) → (x == k) ≡ same → (f x && all) ≡ true → (same || rest) ≡ true → (all ≡ true → rest ≡ true → f k ≡ true) → f k ≡ true
 meets_if f x k true all rest e h s later = ap f (sym ((Decides-eqb x k).0 e)) ∙ (and_parts (f x) all h).0
@@ -40,7 +40,7 @@ one_fails : (f : ℕ → Bool) (xs : List ℕ) → list_all f xs ≡ false → F
 one_fails f [] h = absurd cc
 one_fails f (x ∷ xs) h = fails_if f x xs (f x) refl h (one_fails f xs)
 
--- how many of the labels aren't shown
+-- The number of the labels that aren't shown.
 
 at_most_if : (b : Bool) (m n : ℕ) → m ≤ n → (if b then 0 else 1) + m ≤ suc n
 at_most_if true m n h = omega (arith, h)
@@ -65,7 +65,7 @@ module _ (app : Application) (worlds : Worlds) (viewer : Option ℕ) (consulted 
   abbrev Rounds : ℕ → List ℕ → List ℕ → List ℕ
   Rounds n ks labels = rounds app worlds viewer consulted n ks labels
 
-  -- what a label that may be added is
+  -- A label that may be added wasn't consulted and isn't shown.
   hidden_before : (k : ℕ) (labels : List ℕ) → Adding k labels ≡ true → (shown_by consulted k ≡ false) × (shown_by labels k ≡ false)
   hidden_before k labels h = either_false (shown_by consulted k) (shown_by labels k) (and_parts (not (shown_by consulted k || shown_by labels k)) (all_allowed app (worlds (shown_by (with_number k labels))) viewer (with_number k labels)) h).0
 
@@ -74,7 +74,7 @@ module _ (app : Application) (worlds : Worlds) (viewer : Option ℕ) (consulted 
       each_meets (λ i. is_allowed app (worlds (shown_by (with_number k labels))) viewer i) (with_number k labels)
       (and_parts (not (shown_by consulted k || shown_by labels k)) (all_allowed app (worlds (shown_by (with_number k labels))) viewer (with_number k labels)) h).1 j s
 
-  -- labels that were added
+  -- Labels that were added.
 
   record Added (old new : List ℕ) : Type 0 where
     pub labels : List ℕ
@@ -105,7 +105,7 @@ module _ (app : Application) (worlds : Worlds) (viewer : Option ℕ) (consulted 
       let rest = rounds_add n ks live (Round ks old) in
       record { labels = one.labels ++ rest.labels; adds = adds_then one.labels rest.labels old (Round ks old) (Rounds n ks (Round ks old)) one.adds rest.adds }
 
-  -- a round adds one of the labels, or leaves all as it was
+  -- A round adds one of the labels, or changes nothing.
 
   abbrev Moves : List ℕ → List ℕ → List ℕ → Type 0
   Moves labels old new = (new ≡ old) ⊎ (hidden_count (shown_by new) labels < hidden_count (shown_by old) labels)
@@ -132,7 +132,7 @@ module _ (app : Application) (worlds : Worlds) (viewer : Option ℕ) (consulted 
   stays zero ks old e = refl
   stays (suc n) ks old e = ap (Rounds n ks) e ∙ stays n ks old e
 
-  -- after as many rounds as labels are hidden, none is added any more
+  -- After as many rounds as there are hidden labels, no label is added.
 
   ended_if : (n : ℕ) (ks old : List ℕ) → Moves ks old (Round ks old) → hidden_count (shown_by old) ks ≤ suc n
       → (hidden_count (shown_by (Round ks old)) ks ≤ n → Round ks (Rounds n ks (Round ks old)) ≡ Rounds n ks (Round ks old))
@@ -150,7 +150,7 @@ module _ (app : Application) (worlds : Worlds) (viewer : Option ℕ) (consulted 
   ended zero ks old few = none_left ks old (round_moves ks ks (λ k s. s) old) few
   ended (suc n) ks old few = ended_if n ks old (round_moves ks ks (λ k s. s) old) few (ended n ks (Round ks old))
 
-  -- where a round adds none, none of its labels may be added
+  -- If a round adds no label, none of its labels may be added.
 
   kept_if : (k j : ℕ) (old : List ℕ) (b : Bool) → shown_by old j ≡ true → shown_by (if b then with_number k old else old) j ≡ true
   kept_if k j old true s = shown-inserted k old j ∙ or_right (k == j) (shown_by old j) s

@@ -7,13 +7,13 @@ use Rattle.jac_plain.specs.Requests.{Visit, Worlds, page}
 use Rattle.jac_plain.specs.declared.page.Page.{Page}
 use Rattle.jac_shown_rows.specs.Consulted.{Agrees}
 
--- the label is allowed, whatever else is shown beside what was consulted
+-- The label is allowed, whatever else is shown besides what was consulted.
 pub record AlwaysAllows (app : Application) (worlds : Worlds) (viewer : Option ℕ)
     (consulted : List ℕ) (w : ℕ → Bool) (label : ℕ) : Type 0 where
   pub each : (v : ℕ → Bool) → Agrees consulted w v → is_allowed app (worlds v) viewer label ≡ true
 
--- some label that the assignment shows isn't allowed, whatever else is shown beside what was
--- consulted
+-- Some label that the assignment shows isn't allowed, whatever else is shown besides what was
+-- consulted.
 pub record AlwaysForbids (app : Application) (worlds : Worlds) (viewer : Option ℕ)
     (consulted : List ℕ) (w : ℕ → Bool) : Type 0 where
   pub label : ℕ
@@ -21,9 +21,9 @@ pub record AlwaysForbids (app : Application) (worlds : Worlds) (viewer : Option 
   pub forbidden : (v : ℕ → Bool) → Agrees consulted w v
       → is_allowed app (worlds v) viewer label ≡ false
 
--- labels are steady for a viewer where they ascend, each was consulted, is live, and is allowed
--- whatever else is shown; and with any live label that was consulted and isn't shown, added to
--- them, one never is
+-- Labels are steady for a viewer if they ascend, and each was consulted, is live, and is allowed
+-- whatever else is shown. If any other live label that was consulted is added, some label is never
+-- allowed.
 pub record IsSteady (app : Application) (worlds : Worlds) (viewer : Option ℕ)
     (consulted labels : List ℕ) : Type 0 where
   pub ascending : IsAscending labels
@@ -35,7 +35,7 @@ pub record IsSteady (app : Application) (worlds : Worlds) (viewer : Option ℕ)
       → shown_by labels k ≡ false
       → AlwaysForbids app worlds viewer consulted (with_label k (shown_by labels))
 
--- the page of the request, whatever is shown beside what was consulted
+-- The page of the request is the same, whatever is shown besides what was consulted.
 pub record IsPageOf (app : Application) (before : Worlds) (consulted labels : List ℕ)
     (visit : Visit) (it : Page) : Type 0 where
   pub each : (w : ℕ → Bool) → Agrees consulted (shown_by labels) w → it ≡ page w app

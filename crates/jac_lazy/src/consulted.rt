@@ -1,4 +1,4 @@
-//! Labels that were consulted, handed out.
+//! The labels that were consulted, as an assignment.
 ghost use Rattle.std.specs.Prelude.{◌≡◌, IfOk};
 
 use jac_shown_rows::Support;
@@ -14,7 +14,7 @@ pub(crate) fn assignment_of(alloc: Global, consulted: &Support) -> Result<Assign
     'labels: for label in consulted.as_slice() {
         a.add(*label)?;
     }
-    // The labels of an assignment rise.
+    // Reading the labels of an assignment shows that they ascend.
     let _ = a.as_slice();
     Ok(a)
 }

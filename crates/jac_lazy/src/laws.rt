@@ -11,8 +11,8 @@ ghost use Rattle.jac_resolve.specs.Rounds.{AreLive};
 ghost use Rattle.jac_lazy.specs.Steady.{IsPageOf, IsSteady};
 ghost use Rattle.jac_lazy.specs.Filled.{IsFilled, IsPageOfSettled, fill};
 
-/// A law: where labels are steady, what they are filled up to is settled, and shows the same of
-/// what was consulted.
+/// A law: if labels are steady, the labels that they are filled up to are settled, and agree with
+/// them about what was consulted.
 pub fn filled_is_settled()
     ensures { (app : Application) (worlds : Worlds) (viewer : Option ℕ)
         (consulted labels filled : List ℕ) → IsSteady app worlds viewer consulted labels →
@@ -20,15 +20,16 @@ pub fn filled_is_settled()
         Agrees consulted (shown_by labels) (shown_by filled) }
 {}
 
-/// A law: rounds that try the live labels, in rising order or another, fill up any labels so.
+/// A law: rounds that try the live labels, in rising or any other order, fill up any labels.
 pub fn rounds_fill()
     ensures { (app : Application) (worlds : Worlds) (viewer : Option ℕ)
         (consulted live labels : List ℕ) → AreLive app worlds live →
         IsFilled app worlds viewer consulted labels (fill app worlds viewer consulted live labels) }
 {}
 
-/// A law: where labels are steady, a page that is the same whatever is shown beside what was
-/// consulted is the page under a settled assignment, one that shows the same of what was consulted.
+/// A law: suppose that labels are steady, and that a page is the same whatever is shown besides
+/// what was consulted. Then it is the page under a settled assignment that agrees with the labels
+/// about what was consulted.
 pub fn steady_pages()
     ensures { (app : Application) (worlds before : Worlds) (viewer : Option ℕ)
         (consulted live labels : List ℕ) (visit : Visit) (it : Page) →
@@ -37,7 +38,7 @@ pub fn steady_pages()
         IsPageOfSettled app worlds before viewer consulted labels visit it }
 {}
 
-/// A law: what a pass over all live labels leaves is settled.
+/// A law: the result of a pass over all live labels is settled.
 pub fn passed_is_settled()
     ensures { (app : Application) (worlds : Worlds) (viewer : Option ℕ) (answers : PolicyMemo)
         (live labels : List ℕ) → IsAscending labels → AreLive app worlds live →

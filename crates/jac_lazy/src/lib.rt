@@ -1,5 +1,4 @@
-//! Pages that are made after only those labels are resolved that the page and their policies
-//! consult.
+//! Makes a page with `--lazy`. It decides only the labels that are consulted.
 #![tactic(auto, using(jac_shown_rows::proofs::Growing::grows_same, jac_shown_rows::proofs::Growing::grows_then, jac_shown_rows::proofs::Growing::agrees_less))]
 
 mod consulted;

@@ -23,7 +23,8 @@ use jac_world::{Assignment, Label, Steps};
 use std::alloc::Global;
 use std::sync::ledger::Ledger;
 
-/// A page, the labels that were consulted for it, and those of them that it was made under.
+/// A page, the labels that were consulted for it, and the labels among them under which it was
+/// made.
 #[derive(Drop)]
 pub struct LazyPage {
     pub page: Page,
@@ -31,7 +32,7 @@ pub struct LazyPage {
     pub consulted: Assignment,
 }
 
-// A page, and the labels that it was made under.
+// A page, and the labels under which it was made.
 #[derive(Drop)]
 struct MadePage {
     page: Page,
@@ -47,11 +48,11 @@ struct PageSource<'a> {
     env: &'a PlainEnv,
 }
 
-/// The page of a view that writes nothing, made after only those labels are resolved that the page
-/// and their policies consult. Nothing is consulted at first, and the page is run under no labels.
-/// Then the live labels that were consulted are settled, and the page is run under them, if it
-/// wasn't yet; what the policies and the page consult is added, until nothing is. What a policy
-/// answered is remembered from run to run.
+/// The page of a view that writes nothing. Only the labels are resolved that the page and their
+/// policies consult. At first nothing is consulted, and the page is run under no labels. Then the
+/// live labels that were consulted are settled, and the page is run under them, unless it was run
+/// under the same labels before. The labels that the policies and the page consult are added, until
+/// there are no others. Results of policies are cached from run to run.
 pub fn page_lazily<K: Keeper, M: Ledger>(
     work: &mut Work<'_, K>,
     app: &App,
@@ -113,7 +114,7 @@ pub fn page_lazily<K: Keeper, M: Ledger>(
     }
 }
 
-// The page under the labels. One that was made under the same labels isn't run again.
+// The page under the labels. A page that was made under the same labels isn't run again.
 fn page_under<K: Keeper>(
     work: &mut Work<'_, K>,
     source: &PageSource<'_>,
@@ -155,7 +156,7 @@ fn page_under<K: Keeper>(
     Ok(made)
 }
 
-// The page under the labels, run.
+// Runs the page under the labels.
 fn run_page<K: Keeper>(
     work: &mut Work<'_, K>,
     source: &PageSource<'_>,
@@ -198,7 +199,7 @@ fn are_same(one: &[Label], other: &[Label]) -> bool
     one == other
 }
 
-// How many labels were consulted.
+// The number of labels that were consulted.
 fn count_of(consulted: &Support) -> usize
     ensures count { result ≡ length consulted.now }
     ensures few { result < 2 ^ 64 }
@@ -215,7 +216,7 @@ fn body_at(app: &App, view: u32) -> &Stmts
     &app.views.as_slice()[view as usize].body
 }
 
-// The view's statements stand in no loop.
+// The view's statements aren't in a loop.
 fn in_no_loop(ctx: &Ctx) -> Ctx
     ensures { result ≡ record ctx.now { around = None } }
 {

@@ -19,6 +19,6 @@ invariant-runs g l =
     IsPageOf (application_of l.app) worlds l.consulted l.made.shown
     (record { view = l.view; env = l.env; viewer = l.ctx.viewer }) l.made.page)
 
--- a slice has less than 2 ^ 64 labels
+-- A slice has fewer than 2 ^ 64 labels.
 abbrev pub decreases-runs : goal.decreases-runs
 decreases-runs g l = 2 ^ 64 - length l.consulted
