@@ -1,4 +1,4 @@
--- What the contract of the top call gives is the promise.
+-- The contract of the top call gives the promise.
 use Rattle.std.specs.Prelude.{ℕ, List}
 use Rattle.jac_run_laws.specs.Replayed.{TopRun, IsTopRun}
 use Rattle.jac_headline.proofs.Faithful.{headline}

@@ -25,14 +25,14 @@ use Rattle.jac_app.specs.Run.{Ends, Runs, usage_line}
 use Rattle.jac_run_laws.specs.Replayed.{TopRun, IsTopRun, counts_of}
 use Rattle.jac_main.specs.Refused.{IsOtherLeft}
 
--- two endings with reasons are the same
+-- Two equal endings have the same reason.
 same_reason : {T : Type 0} (a b : ExitReason) → ◌≡◌ {A = Result T ExitReason} (Err a) (Err b) → a ≡ b
 same_reason a b same = cc
 
 -- ---- a store of another schema was found
 
 module _ (stored wanted : List ℕ) where
-  -- this is why the steps end
+  -- The reason why the steps end.
   abbrev other : ExitReason
   other = exits.OtherStore stored wanted
 
@@ -50,7 +50,7 @@ module _ (stored wanted : List ℕ) where
         let it : AttachesAs db app keeper (Err other) = subst (λ (e : ExitReason). AttachesAs db app keeper (Err e)) (sym (same_reason other reason same)) attaches in
         left_by [] [] it.1 it.2
 
-  -- no call over a store that is attached ends so
+  -- No call over an attached store ends with this reason.
   never_kept : {A : Type 0} (k : Span KeeperSeen) (put : List ℕ) → IsKept k (Err other) put → A
   never_kept k put kept = elim kept.ended [
     | inl failed ↦ absurd (let same = same_reason other exits.StoreFault failed.0 in cc)
@@ -115,7 +115,7 @@ module _ (stored wanted : List ℕ) where
 
 -- ---- and then its line is put
 
--- only this ending has the status
+-- Only this ending has the status.
 record IsOtherReason (reason : ExitReason) : Type 0 where
   pub stored : List ℕ
   pub wanted : List ℕ
@@ -135,7 +135,7 @@ reason_of exits.StoreFault same = absurd cc
 reason_of exits.DoorFault same = absurd cc
 reason_of exits.Memory same = absurd cc
 
--- the line that was put is that of the status
+-- The line that was put is the line of the status.
 closes_other : (out : Span SinkSeen) (text put : List ℕ) (status : Status) → Closes out text status put statuses.OtherStore → status ≡ statuses.OtherStore
 closes_other out text put status (inl h) = sym h.1
 closes_other out text put status (inr h) = absurd (let same = h.1 in cc)

@@ -26,8 +26,9 @@ top_run line seen door splits evaluations status = record {
   status = status;
 }
 
--- its store begins empty, or as its file is supposed to; the contract of the top call holds; a
--- replay or a serve that is told to its end is faithful; and a run with status 9 attached no store
+-- The store begins empty, or as its file is supposed to. The contract of the top call holds. A
+-- replay of given files, or a serve, is faithful if the contents that it used are known to its end
+-- (`IsReplayTold`, `IsToldToEnd`). A run with status 9 attached no store.
 pub record KeepsPromise {L : Type 0} (s : Supposed) (words : List (List ℕ)) (top : TopRun L) :
     Type 0 where
   pub begins : BeginsSupposed s words top.seen.keeper.before

@@ -6,20 +6,21 @@ use Rattle.jac_cli.specs.declared.words.Command.{Command}
 use Rattle.jac_keep.specs.KeeperSeen.{KeeperSeen}
 use Rattle.jac_reopen.specs.Reopened.{Supposed, waiting_keeper}
 
--- the command names the file of a store
+-- Whether the command names the file of a store.
 abbrev pub has_file : Option Command → Bool
 has_file None = false
 has_file (Some command) = is_some (db_of command)
 
--- memory of which nothing is stored, and the first number is 1; it tells so before it is attached
+-- Memory in which nothing is stored, and the first number is 1. Its state is known before it is
+-- attached.
 pub record BeginsEmpty (k : KeeperSeen) : Type 0 where
   pub tells : IsTrue k.tells
   pub tables : k.state.tables ≡ []
   pub number : k.state.number ≡ 1
   pub schema : k.store.schema ≡ None
 
--- The store isn't attached, and nothing failed. It is memory, and empty, unless the command names a
--- file; then it tells what is supposed of that file.
+-- The store isn't attached, and nothing failed. If the command names no file, it is memory, and
+-- empty. Otherwise its state is what is supposed of the file.
 pub record BeginsSupposed (s : Supposed) (words : List (List ℕ)) (k : KeeperSeen) : Type 0 where
   pub memory : has_file (command_of words) ≡ false → BeginsEmpty k
   pub file : has_file (command_of words) ≡ true → k ≡ waiting_keeper s

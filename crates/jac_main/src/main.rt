@@ -1,4 +1,4 @@
-//! The program `jac`: the host's files, its audit, standard output and stores, beneath `jac_app`.
+//! The program `jac`: `jac_app` over the host's files, its audit, standard output and stores.
 #![tactic(auto)]
 
 ghost use Rattle.std.specs.Prelude.{◌≡◌, ◌<◌, IfOk, false, []};
@@ -81,7 +81,7 @@ fn run_words<L: Ledger, M: Ledger, O: Outside, F: FileOpens>(
     Ok(status)
 }
 
-// What the program has of the machine, but for its store.
+// What the program uses of the machine, except for its store.
 #[derive(Drop)]
 struct Host<'h, O: Outside> {
     files: HostFiles<'h, O>,
@@ -90,13 +90,14 @@ struct Host<'h, O: Outside> {
     door: HostDoor<'h, O>,
 }
 
-// The run over the host, of which nothing was asked yet. It reaches the machine by these alone. `O`
-// is what is supposed of the outside: where the files that were read and the input that was taken
-// are as it says, each clause holds of the bytes that writes took. `F` opens the store's file, and
-// supposes what it holds: where its bytes are as it says, each clause on what stood there holds of
-// the store that they stand for. A file that isn't attached at the end is left as it was opened.
-// The rows of one that tells then are well formed and committed. The input of each connection that
-// was handed back ends for good, so some input agrees with all that was read of it.
+// The run over the host, before anything was asked of it. It reaches the machine only by these
+// arguments. `O` is what is supposed of the outside: if the files that were read and the input that
+// was taken are as `O` says, each clause holds of the bytes that writes took. `F` opens the store's
+// file and supposes what it holds: if its bytes are as `F` says, each clause about what was stored
+// holds of the store that they represent. A file that isn't attached at the end is left as it was
+// opened. If a file is attached and its state is known at the end, its rows are well formed and
+// committed. The input of each connection that was handed back ends for good, so some input agrees
+// with all that was read from it.
 fn run_host<O: Outside, F: FileOpens, L: Ledger, M: Ledger>(
     alloc: Global,
     words: &[Txt],
@@ -145,8 +146,8 @@ fn run_host<O: Outside, F: FileOpens, L: Ledger, M: Ledger>(
     status
 }
 
-// The store that these words ask for: in memory, which holds nothing and tells so from now on,
-// unless their command names a file.
+// The store that these words ask for. Unless their command names a file, it is in memory and empty,
+// and its state is known from now on.
 fn vault_for<F: FileOpens>(
     rt: &HostRuntime,
     words: &[Txt],
@@ -185,8 +186,8 @@ fn names_file(command: &Option<Command>) -> bool
     }
 }
 
-// Whether the command makes a store that isn't there: a dump, an upgrade and a why take one that
-// is.
+// Whether the command makes a store that doesn't exist. A dump, an upgrade and a why need an
+// existing store.
 fn makes_file(command: &Option<Command>) -> bool {
     match command {
         Some(Command::Dump(_) | Command::Upgrade(_) | Command::Why(_)) => false,
