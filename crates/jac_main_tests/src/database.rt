@@ -1,4 +1,4 @@
-//! Requests that are answered over a database in memory, and what is found there.
+//! Requests are answered over a database in memory, and the stored records are found there.
 ghost use Rattle.std.specs.Prelude.{◌≡◌, ◌<◌, ◌≤◌, length, IsTrue};
 
 use crate::scripts::{
@@ -67,7 +67,7 @@ fn events_are_served_over_a_database(rt: HostRuntime) -> Result<(), Fail> {
     Ok(())
 }
 
-/// The same requests over a link.
+/// The same requests over a connection.
 const REQUESTS: &[u8] = b"POST /join HTTP/1.1\r\nHost: a\r\nContent-Length: 8\r\n\r\nname=Ann\
 POST /join HTTP/1.1\r\nHost: a\r\nContent-Length: 8\r\n\r\nname=Bob\
 POST /add HTTP/1.1\r\nHost: a\r\nCookie: session=ann\r\nContent-Length: 17\r\n\r\ntitle=raid&open=0\
@@ -90,7 +90,7 @@ const LINE: Line<'static> = Line {
     fails: &[],
 };
 
-/// Whether an alternative of the record is found that has this title.
+/// Whether one of the record's alternatives has this title.
 fn has_title(rows: &[Row], title: &str) -> bool {
     for row in rows {
         if let Some(Value::Text(text)) = row.cells.as_slice().first() {
@@ -102,7 +102,7 @@ fn has_title(rows: &[Row], title: &str) -> bool {
     false
 }
 
-/// Whether both alternatives of the record are found by the title that is shown to its host.
+/// Whether both alternatives of the record are found by the title that its host sees.
 fn is_found(alloc: Global, keeper: &mut SqlKeeper<MemoryOpener>) -> Result<bool, Memory>
     requires { IsTrue keeper.old.store.attached }
 {
@@ -114,7 +114,7 @@ fn is_found(alloc: Global, keeper: &mut SqlKeeper<MemoryOpener>) -> Result<bool,
     Ok(rows.len() == 2 && has_title(rows, "raid") && has_title(rows, "private"))
 }
 
-/// Attaches a new database in memory, serves a link, and asks for the records of the raid.
+/// Attaches a new database in memory, serves a connection, and looks for the records of the raid.
 fn serves_and_finds<L: Ledger, M: Ledger>(
     alloc: Global,
     service: &Service,
@@ -157,7 +157,8 @@ fn serves_and_finds<L: Ledger, M: Ledger>(
     }
 }
 
-/// Whether the application answers the requests over a link, and what they stored is found.
+/// Whether the application answers the requests over a connection, and the stored records are
+/// found.
 fn is_link_served(alloc: Global, app: &[u8]) -> Result<bool, Memory>
     requires { length app.now ≤ 1048576 }
 {

@@ -1,4 +1,5 @@
-//! Each call of what is around a run fails in turn, and each call of its keeper.
+//! Each call of the files and sinks around a run fails in turn, and so does each call of its
+//! keeper.
 use crate::scripts::{CALENDAR, Fails, Left, NO_FAILS, REPLAY, Script, Wanted, leaves, run_script};
 use jac_app::Status;
 use jac_value::Memory;
@@ -10,7 +11,7 @@ ask - POST \"/join\" \"name=Bob\"
 ask 4096 POST \"/add\" \"title=raid&open=0\"
 ";
 
-/// What fails.
+/// The part that fails.
 #[derive(Clone, Copy)]
 enum Part {
     Files,
@@ -18,9 +19,9 @@ enum Part {
     Audit,
 }
 
-/// Calls of one part that fail, and what a run of the story leaves where they do. The audit's first
-/// call is that which aims it at its file; after it come two for each line, the number and what
-/// follows it.
+/// Calls of one part that fail, and what a run of the story leaves then. The first call of the
+/// audit aims it at its file. After it come two calls for each line: the number, and the rest of
+/// the line.
 struct Fault {
     part: Part,
     calls: &'static [u64],
@@ -184,8 +185,8 @@ fn each_call_of_files_and_sinks_fails_in_turn(rt: HostRuntime) -> Result<(), Fai
     Ok(())
 }
 
-/// A run of the story of which the request of this place is refused, or none where it is 4; and the
-/// story without it, which leaves the same records.
+/// A run of the story in which the request at this place is refused, or no request if the place is
+/// 4. The events are the story without this request. They leave the same records.
 struct Refusal {
     place: u64,
     events: &'static [u8],
@@ -233,7 +234,8 @@ reply 503 \"\" \"503 Service Unavailable\\n\"
     },
 ];
 
-// Whether a run of these events, in which nothing fails, leaves the same records and number.
+// Whether a run of these events, in which nothing fails, leaves the same records and the same
+// number.
 fn leaves_the_same(alloc: Global, events: &[u8], left: &Left) -> Result<bool, Memory> {
     let other = run_script(alloc, &calendar(events, NO_FAILS), 1)?;
     let have = format!(in alloc; "{:?}", left.keeper.state())?;
@@ -241,7 +243,7 @@ fn leaves_the_same(alloc: Global, events: &[u8], left: &Left) -> Result<bool, Me
     Ok(have.as_bytes() == want.as_bytes())
 }
 
-// The place of the request that was refused alone; 0 where the run is none of those.
+// The place of the only request that was refused. 0 if the run is none of `REFUSALS`.
 fn refused_in(alloc: Global, left: &Left) -> Result<u64, Memory> {
     for refusal in &REFUSALS {
         if left.ran.out.taken() == refusal.out && left.ran.audit.taken() == refusal.audit {
@@ -252,7 +254,7 @@ fn refused_in(alloc: Global, left: &Left) -> Result<u64, Memory> {
     Ok(0)
 }
 
-// The same of a run of the story that ends well, and 0 for any other.
+// The same for a run of the story that ends well. 0 for any other run.
 fn refused_by(alloc: Global, fails: Fails) -> Result<u64, Memory> {
     let left = run_script(alloc, &calendar(STORY, fails), 1)?;
     if left.ran.status != Status::Done {
@@ -301,7 +303,7 @@ fn each_call_of_the_keeper_fails_in_turn(rt: HostRuntime) -> Result<(), Fail> {
     Ok(())
 }
 
-/// Two people join, the first makes sixty events that nobody else may see, and each asks how many
+/// Two people join. The first makes sixty events that nobody else may see. Then each asks how many
 /// are private.
 fn sixty_events(alloc: Global) -> Result<Vec<u8>, Memory> {
     let mut events = Vec::from_slice(
@@ -327,8 +329,8 @@ fn answers_sixty(alloc: Global, fails: Fails) -> Result<bool, Memory> {
     Ok(left.ran.out.taken().ends_with(LAST_REPLIES) && left.keeper.state().number == 63)
 }
 
-// Asked again at each try, the policies of sixty events take more than 37,000 evaluations, each of
-// which reads the keeper.
+// If the policies of sixty events were evaluated again at each try, this would take more than
+// 37,000 evaluations, each of which reads the keeper.
 #[test]
 fn policies_are_asked_where_what_they_read_is_new(rt: HostRuntime) -> Result<(), Fail> {
     let fails = Fails {

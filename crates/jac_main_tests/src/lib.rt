@@ -1,6 +1,5 @@
-//! Tests of the program's top call, over files, sinks, a keeper and a door in memory that fail at
-//! chosen calls, and over a database in memory. They stand above `jac_main`'s crates, so that the
-//! program isn't proved once more for them.
+//! Tests of `run` over files, sinks, a keeper and a door in memory that fail at chosen calls, and
+//! over a database in memory. They are apart so that the program isn't proved again for them.
 #![tactic(auto)]
 
 #[cfg(test)]

@@ -1,4 +1,5 @@
-//! Each call of a link and of its door fails in turn, and the audit and the keeper meanwhile.
+//! Each call of a link and of its door fails in turn, and calls of the audit and the keeper fail
+//! meanwhile.
 use crate::scripts::{
     CALENDAR, Fails, HELLO, Left, Line, NO_FAILS, Script, Wanted, is_left, run_script,
 };
@@ -25,12 +26,13 @@ Content-Length: 24\r\nConnection: close\r\n\r\n503 Service Unavailable\n";
 
 const LAST: &[u8] = b"GET / HTTP/1.0\r\n\r\n";
 
-/// A request in two pieces, and one that is its connection's last: two takes, a put, a take, a put.
+/// A request in two pieces, and one that is the last of its connection. The calls are two takes, a
+/// put, a take and a put.
 const TWO: [&[u8]; 3] = [b"GET / HTT", b"P/1.1\r\nHost: a\r\n\r\n", LAST];
 
 const ONE: [&[u8]; 1] = [LAST];
 
-// Serves a link whose calls of these numbers fail, and one more.
+// Serves two links. These calls of the first one fail.
 fn serve_two(alloc: Global, calls: &[u64], fails: Fails) -> Result<Left, Memory> {
     let lines = [
         Line {
@@ -52,7 +54,7 @@ fn serve_two(alloc: Global, calls: &[u64], fails: Fails) -> Result<Left, Memory>
     run_script(alloc, &script, 1)
 }
 
-/// The call of the first link that fails, and what both leave.
+/// The call of the first link that fails, and what both links leave.
 struct LinkFault {
     call: u64,
     first: &'static [u8],
@@ -123,8 +125,9 @@ fn a_link_that_fails_ends_alone(rt: HostRuntime) -> Result<(), Fail> {
 }
 
 /// The call of the door, or of the audit, that fails while two links are served, and what is left:
-/// how the run ended, how many links were handed back, and the audit. The door is asked to listen,
-/// and then for each link and to take it back.
+/// how the run ended, how many links were handed back, and the audit. The first call of the door
+/// makes it listen. Then two calls follow for each link: one that gives the link, and one that
+/// takes it back.
 struct RunFault {
     door: u64,
     audit: u64,

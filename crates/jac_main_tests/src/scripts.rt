@@ -37,7 +37,7 @@ const PEOPLE: &str = "(app (model User (fields (name text)))
 const PEOPLE_WITH_NOTES: &[u8] = b"(app (model User (fields (name text) (mail text)))
  (model Note (fields (body text))))";
 
-/// The words of a run of events.
+/// The words of a replay.
 pub(crate) const REPLAY: [&str; 3] = ["replay", "app", "events"];
 
 /// How many bytes a sink takes.
@@ -46,7 +46,7 @@ const SINK_ROOM: usize = 65_536;
 /// How many bytes a link takes.
 const LINK_ROOM: usize = 4096;
 
-/// The calls that are to fail, by their numbers.
+/// The numbers of the calls that fail.
 #[derive(Clone, Copy)]
 pub(crate) struct Fails<'f> {
     pub(crate) files: &'f [u64],
@@ -66,14 +66,14 @@ pub(crate) const NO_FAILS: Fails<'static> = Fails {
     door: &[],
 };
 
-/// What a link gives, piece by piece, and those of its calls that are to fail.
+/// The pieces that a link gives, and the numbers of its calls that fail.
 #[derive(Clone, Copy)]
 pub(crate) struct Line<'l> {
     pub(crate) pieces: &'l [&'l [u8]],
     pub(crate) fails: &'l [u64],
 }
 
-/// A run: its words, its two files, and the links of its door.
+/// A run: its words, its two files, the links of its door, and the calls that fail.
 #[derive(Clone, Copy)]
 pub(crate) struct Script<'s> {
     pub(crate) words: &'s [&'s str],
@@ -83,7 +83,7 @@ pub(crate) struct Script<'s> {
     pub(crate) fails: Fails<'s>,
 }
 
-/// What a run is to leave.
+/// What a run must leave.
 #[derive(Clone, Copy)]
 pub(crate) struct Wanted<'w> {
     pub(crate) status: Status,
@@ -92,7 +92,7 @@ pub(crate) struct Wanted<'w> {
     pub(crate) number: u64,
 }
 
-/// What is around a run, but for its keeper.
+/// What is around a run, without its keeper.
 #[derive(Drop)]
 pub(crate) struct Around {
     files: MemoryFiles,
@@ -101,7 +101,7 @@ pub(crate) struct Around {
     door: MemoryDoor,
 }
 
-/// How a run ended, what it put, and its door.
+/// How a run ended, what it wrote, and its door.
 #[derive(Drop)]
 pub(crate) struct Ran {
     pub(crate) status: Status,
@@ -181,7 +181,7 @@ pub(crate) fn around_of(alloc: Global, script: &Script) -> Result<Around, Memory
     })
 }
 
-// A keeper that has nothing stored, and this number.
+// An empty keeper with this next number.
 fn keeper_at(alloc: Global, number: u64, fails: Fails) -> Result<MemoryKeeper, Memory>
     requires from_one { 1 ≤ number }
     requires in_range { number ≤ 2 ^ 40 }
@@ -196,7 +196,7 @@ fn keeper_at(alloc: Global, number: u64, fails: Fails) -> Result<MemoryKeeper, M
     Ok(MemoryKeeper::new(state, None, reads, applies))
 }
 
-/// Runs the words over a keeper to which none was attached yet.
+/// Runs the words over a keeper that was never attached.
 pub(crate) fn run_over<K: Vault, L: Ledger, M: Ledger>(
     alloc: Global,
     words: &[Txt],
@@ -238,7 +238,7 @@ pub(crate) fn run_over<K: Vault, L: Ledger, M: Ledger>(
     }
 }
 
-/// Runs a script over a new store with this number.
+/// Runs a script over a new store with this next number.
 pub(crate) fn run_script(alloc: Global, script: &Script, number: u64) -> Result<Left, Memory>
     requires from_one { 1 ≤ number }
     requires in_range { number ≤ 2 ^ 40 }
@@ -264,7 +264,7 @@ pub(crate) fn is_left(left: &Left, wanted: &Wanted) -> bool {
         && left.keeper.state().number == wanted.number
 }
 
-/// Whether a run over a new store with this number leaves what is wanted.
+/// Whether a run over a new store with this next number leaves what is wanted.
 pub(crate) fn leaves(
     alloc: Global,
     script: &Script,
@@ -306,7 +306,8 @@ fn a_post_past_the_last_number_is_refused(rt: HostRuntime) -> Result<(), Fail> {
     Ok(())
 }
 
-/// An upgrade, and how many tables the store has after it.
+/// How many tables the store has after an upgrade. None if the upgrade doesn't leave what is
+/// wanted.
 fn upgraded(alloc: Global, fails: Fails, wanted: &Wanted) -> Result<Option<usize>, Memory> {
     let script = Script {
         words: &["upgrade", "app", "events", "--db", "store"],
