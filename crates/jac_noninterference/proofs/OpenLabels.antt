@@ -27,7 +27,7 @@ use Rattle.jac_noninterference.proofs.SameAnswers.{no_failure, no_memory, refuse
 use Rattle.jac_noninterference.proofs.SideBySide.{stands, same_reply, by_labels, behind, answered_whole, asks, pages_agree}
 use Rattle.jac_plain.specs.Shown.{worlds_of}
 
--- what isn't the page of a POST leaves each world
+-- Any visit but a POST leaves each world unchanged.
 
 stays_by : (v : Verb) (w : ℕ → Bool) (app : Application) (t : PlainState) (visit : Visit) → is_post v ≡ false
     → after_by v w app t visit ≡ t
@@ -56,7 +56,7 @@ still_answered : (app : Application) (entry : LogEntry) (worlds : Worlds) (log :
     → AreAnswered false app worlds log
 still_answered app entry worlds log h answered = subst (λ (ws : Worlds). AreAnswered false app ws log) (same_worlds app entry worlds h) answered
 
--- a page of this view isn't stored
+-- If a page of this view isn't stored, its method isn't POST.
 unstored : (n : ℕ) (pairs : List Pair) (app : Application) (labels : List ℕ) (o : Option (List ℕ))
     → o ≡ Some labels → is_stored_by (founds.View n pairs) app o ≡ false
     → is_post (method_in (slice_get app.views n)) ≡ false

@@ -22,16 +22,16 @@ use Rattle.jac_dispatch.specs.Log.{HasFailed, IsAnswer, left_of, refused_with}
 use Rattle.jac_noninterference.specs.TwoRuns.{seen_answer}
 use Rattle.jac_noninterference.proofs.SameSubjects.{IsLegible}
 
--- what is seen of the answer is the interpreter's page under some labels
+-- The seen part of the answer is the page that the interpreter makes under some labels.
 abbrev pub IsPageIn : Application → Worlds → Visit → Answer → Type 0
 IsPageIn app worlds visit answer =
     (labels : List ℕ) × (seen_answer answer ≡ page_answer labels (page (shown_by labels) app (worlds (shown_by labels)) visit))
 
--- a view answers with a page, or that numbers are used up
+-- A view answers with a page, or with the refusal that numbers are used up.
 abbrev pub IsPagedOr : Application → Worlds → Visit → Answer → Type 0
 IsPagedOr app worlds visit answer = IsPageIn app worlds visit answer ⊎ (answer ≡ refusal 507 None)
 
--- a page for which only what it consults was resolved is the one under the labels that it shows
+-- A page that resolved only what it consults is the page under the labels that it shows.
 shown_page : (lazy : Bool) (app : Application) (worlds : Worlds) (visit : Visit) (answer : Answer)
     → IsShownPage lazy app worlds visit answer → IsPageIn app worlds visit answer
 shown_page false app worlds visit answer p = (p.labels, ap seen_answer p.made)
@@ -44,7 +44,7 @@ paged_or lazy verbs.Get app worlds visit answer p = inl (shown_page lazy app wor
 paged_or lazy verbs.Post app worlds visit answer (inl (is, none)) = inr is
 paged_or lazy verbs.Post app worlds visit answer (inr (some, p)) = inl (p.labels, ap seen_answer p.made)
 
--- in worlds of which one is the same both are pages, or both are the refusal
+-- If one of the worlds is the same, both answers are pages or both are the refusal.
 pub data ByAnswers (app : Application) (worlds worlds' : Worlds) (visit : Visit) (one two : Answer) : Type 0 where
   pages : IsPageIn app worlds visit one → IsPageIn app worlds' visit two → ByAnswers app worlds worlds' visit one two
   full : (one ≡ refusal 507 None) → (two ≡ refusal 507 None) → ByAnswers app worlds worlds' visit one two
@@ -52,7 +52,7 @@ pub data ByAnswers (app : Application) (worlds worlds' : Worlds) (visit : Visit)
 no_room : (n m : ℕ) → n ≡ m → n ≡ 2 ^ 40 → m < 2 ^ 40 → ⊥
 no_room n m same is less = omega (arith, same, is, less)
 
--- each world tells whether numbers are used up
+-- Each world determines whether numbers are used up.
 by_verb : (lazy lazy' : Bool) (v : Verb) (w : ℕ → Bool) (app : Application) (worlds worlds' : Worlds) (visit : Visit) (one two : Answer) → worlds w ≡ worlds' w
     → IsAnswerOf lazy v app worlds visit one → IsAnswerOf lazy' v app worlds' visit two → ByAnswers app worlds worlds' visit one two
 by_verb lazy lazy' verbs.Get w app worlds worlds' visit one two same p p' =
@@ -74,7 +74,7 @@ no_failure answer stands (inr is) = let no : true ≡ false = sym (ap is_failure
 pub no_memory : (answer : Answer) → is_failure answer ≡ false → answer ≡ refusal 500 None → ⊥
 no_memory answer stands is = no_failure answer stands (inl is)
 
--- what was broken has failed
+-- The subject of an entry that didn't fail was read.
 pub legible : (lazy : Bool) (app : Application) (worlds : Worlds) (subject : LogSubject) (answer : Answer)
     → IsAnswer lazy app worlds subject answer → is_failure answer ≡ false → IsLegible subject
 legible lazy app worlds (whole ask closes) answer is stands = tt
@@ -83,7 +83,7 @@ legible lazy app worlds broken answer is stands = no_memory answer stands is
 
 -- ---- what answers leave of a world that is the same
 
--- both have a page or neither has, and what they leave is the same
+-- Both have a page or neither has, and they leave the same world.
 pub record LeaveAlike (shown_by shown' : Option (List ℕ)) (t u : PlainState) : Type 0 where
   pub page : is_some shown_by ≡ is_some shown'
   pub left : t ≡ u
@@ -120,14 +120,14 @@ left_found lazy lazy' (founds.View n pairs) w app ask worlds worlds' one two sam
     left_view n pairs w app ask worlds worlds' one two (worlds w) (worlds' w) same
     (by_verb lazy lazy' (method_in (slice_get app.views n)) w app worlds worlds' (visit_of app (asked_with pairs ask) n) one two same is is')
 
--- what is refused is answered with its status, in whatever world
+-- A refused request is answered with its status, in every world.
 pub refused_same : (status : ℕ) (one two : Answer) → (one ≡ refusal 500 None) ⊎ (one ≡ refused_with status) → (two ≡ refusal 500 None) ⊎ (two ≡ refused_with status)
     → is_failure one ≡ false → is_failure two ≡ false → one ≡ two
 refused_same status one two (inl failed) is' stands stands' = absurd (no_memory one stands failed)
 refused_same status one two (inr is) (inl failed) stands stands' = absurd (no_memory two stands' failed)
 refused_same status one two (inr is) (inr is') stands stands' = is ∙ sym is'
 
--- answers to the same leave the same world
+-- Answers to the same request leave the same world.
 pub left_same : (lazy lazy' : Bool) (w : ℕ → Bool) (app : Application) (worlds worlds' : Worlds) (subject : LogSubject) (one two : Answer) → worlds w ≡ worlds' w
     → IsAnswer lazy app worlds subject one → IsAnswer lazy' app worlds' subject two → is_failure one ≡ false → is_failure two ≡ false
     → LeaveAlike one.shown two.shown (left_of w app subject one (worlds w)) (left_of w app subject two (worlds' w))
@@ -141,7 +141,7 @@ left_same lazy lazy' w app worlds worlds' broken one two same is is' stands stan
 
 -- ---- answers that show the same
 
--- what is put doesn't tell what was consulted
+-- The written bytes don't depend on the consulted labels.
 pub seen_put : (spelling : Spelling) (source : Source) (subject : LogSubject) (answer : Answer)
     → reply_on spelling source subject (seen_answer answer) ≡ reply_on spelling source subject answer
 seen_put spelling asked subject answer = refl
@@ -149,8 +149,8 @@ seen_put spelling (connection c) (whole ask closes) answer = refl
 seen_put spelling (connection c) (refused status) answer = refl
 seen_put spelling (connection c) broken answer = refl
 
--- without a page the answers look equal; and so do they where both pages were made under labels that show the same
--- world in both runs
+-- The answers look equal if they have no page. They also look equal if both pages were made under
+-- labels that show the same world in both runs.
 pub record LookAlike (worlds worlds' : Worlds) (one two : Answer) : Type 0 where
   pub refusal : one.shown ≡ None → two.shown ≡ None → seen_answer one ≡ seen_answer two
   pub page :
@@ -179,7 +179,7 @@ page_has app worlds visit answer labels made = ap (λ (a : Answer). a.shown) mad
 pub full_has : (answer : Answer) → answer ≡ refusal 507 None → answer.shown ≡ None
 full_has answer is = ap (λ (a : Answer). a.shown) is
 
--- a page that shows these labels was made under them
+-- A page that shows these labels was made under them.
 page_under : (app : Application) (worlds : Worlds) (visit : Visit) (labels : List ℕ) (answer : Answer) → IsPagedOr app worlds visit answer → answer.shown ≡ Some labels
     → seen_answer answer ≡ page_answer labels (page (shown_by labels) app (worlds (shown_by labels)) visit)
 page_under app worlds visit labels answer (inl (other, made)) on =
@@ -187,7 +187,7 @@ page_under app worlds visit labels answer (inl (other, made)) on =
     made ∙ ap (λ (l : List ℕ). page_answer l (page (shown_by l) app (worlds (shown_by l)) visit)) same
 page_under app worlds visit labels answer (inr is) on = absurd (none_some labels (sym (full_has answer is) ∙ on))
 
--- without a page numbers are used up
+-- If there is no page, numbers are used up.
 full_of : (app : Application) (worlds : Worlds) (visit : Visit) (answer : Answer) → IsPagedOr app worlds visit answer → answer.shown ≡ None → answer ≡ refusal 507 None
 full_of app worlds visit answer (inl (labels, made)) none = absurd (some_none labels (sym (page_has app worlds visit answer labels made) ∙ none))
 full_of app worlds visit answer (inr is) none = is
@@ -211,7 +211,7 @@ look_found lazy lazy' (founds.View n pairs) app ask worlds worlds' one two is is
     (paged_or lazy (method_in (slice_get app.views n)) app worlds (visit_of app (asked_with pairs ask) n) one is)
     (paged_or lazy' (method_in (slice_get app.views n)) app worlds' (visit_of app (asked_with pairs ask) n) two is')
 
--- answers to the same that show the same look equal
+-- Answers to the same request that show the same look equal.
 pub look_same : (lazy lazy' : Bool) (app : Application) (worlds worlds' : Worlds) (subject : LogSubject) (one two : Answer)
     → IsAnswer lazy app worlds subject one → IsAnswer lazy' app worlds' subject two → is_failure one ≡ false → is_failure two ≡ false → LookAlike worlds worlds' one two
 look_same lazy lazy' app worlds worlds' (whole ask closes) one two (inl failed) is' stands stands' = absurd (no_failure one stands failed)

@@ -1,4 +1,4 @@
--- Two logs of the same events are asked the same, for as long as no entry of either failed.
+-- Two logs of the same events have the same subjects, until an entry of either failed.
 use Rattle.std.proofs.Common.{◌≡◌, ◌≢◌, ◌∙◌, ap, sym, subst, refl, inl, inr, ◌⊎◌, ℕ, ◌+◌, Bool, true, false, ◌||◌, Option, Some, None, List, [], ◌∷◌, ◌++◌, append-nil, drop}
 use Rattle.std.specs.Option.{option_map}
 use Rattle.jac_events.specs.declared.event.Event.{Event}
@@ -10,18 +10,19 @@ use Rattle.jac_hub.specs.Hearing.{Source, asked, connection, Subject, whole, ref
 use Rattle.jac_hub.specs.Heard.{Connection, Connections, set_at, with_bytes, closes_connection, with_entry, connections_after, after_entries, after_event, after_both, is_closed, bytes_counted, StandsAt, StandAt, IsNextIn, IsReadThrough, IsNextEntry, AreBrought, AreBegun, PieceBrings, PieceBegins, IsBroughtBy, IsBegunBy, IsHeardFrom, IsHeardInPartFrom}
 use Rattle.jac_noninterference.specs.TwoRuns.{IsSameAsked}
 
--- the subject was read: it doesn't stand for want of memory
+-- The subject was read: it doesn't report that reading it ran out of memory.
 abbrev pub IsLegible : {I : Type 0} → Subject I → Type 0
 IsLegible (whole inquiry close) = Unit {0}
 IsLegible (refused status) = Unit {0}
 IsLegible broken = ⊥
 
--- the entry didn't fail
+-- The entry didn't fail.
 pub record Stands {I A : Type 0} (h : Hearing I A) (entry : Entry I A) : Type 0 where
   pub goes_on : h.ends entry.answer ≡ false
   pub legible : IsLegible entry.subject
 
--- entry by entry the same was asked, until one has failed; and a log ends first only where it may stop early
+-- Entry by entry the subjects are the same, until one entry failed. A log ends first only if its
+-- run may stop early.
 abbrev pub AskedAlike : {I A : Type 0} → Bool → Bool → Hearing I A → List (Entry I A) → List (Entry I A) → Type 0
 AskedAlike early early' h [] [] = Unit {0}
 AskedAlike early early' h [] (two ∷ others) = Stands h two → early ≡ true
@@ -67,7 +68,7 @@ no_more_refused status e = cc
 one_status : (status status' : ℕ) → Refused status ≡ Refused status' → status ≡ status'
 one_status status status' e = cc
 
--- one subject stands at the front of bytes
+-- Bytes begin with only one subject.
 subject_once : {I A : Type 0} (h : Hearing I A) → IsReading h.reads → (one two : Subject I) (from to to' : List ℕ)
     → IsLegible one → IsLegible two → StandsAt h one from to → StandsAt h two from to' → one ≡ two
 subject_once h law (whole inquiry close) (whole inquiry' close') from to to' l l' (request, used, reads, i, c, at) (request', used', reads', i', c', at') =
@@ -96,14 +97,14 @@ more_stands h law (whole inquiry close) from to l more (request, used, reads, i,
 more_stands h law (refused status) from to l more (reads, at) = no_more_refused status (law.one from More (Refused status) more reads)
 more_stands h law broken from to l more at = l
 
--- where all is read, no subject comes next
+-- If all bytes are read, no subject comes next.
 read_all : {I A : Type 0} (h : Hearing I A) → IsReading h.reads → (known : Connection I) (subject : Subject I)
     → IsLegible subject → IsReadThrough h known → IsNextIn h known subject → ⊥
 read_all h law known subject l (from, behind, more) (from', to, behind', stands) =
     let same : from ≡ from' = stand_once h law known.heard (bytes_counted known) from from' behind behind' in
     more_stands h law subject from to l more (subst (λ (f : List ℕ). StandsAt h subject f to) (sym same) stands)
 
--- ---- entries alike leave the connections alike
+-- ---- the same entries leave the same connections
 
 same_connection : {I A : Type 0} (h : Hearing I A) (one two : Entry I A) → one.subject ≡ two.subject → h.ends one.answer ≡ h.ends two.answer
     → (known : Connection I) → with_entry h one known ≡ with_entry h two known
@@ -145,7 +146,7 @@ none_of h n (Begin c) all = refl
 none_of h n (Piece c bytes) all = none_of_piece h n c bytes (all c)
 none_of h n (Finish c) all = refl
 
--- nothing is the beginning of whatever is brought
+-- No entries are the beginning of all entries.
 nothing_heard : {I A : Type 0} (h : Hearing I A) (all : Connections I) (n : ℕ) (events : List Event) → IsHeardInPartFrom h all n events []
 nothing_heard h all n [] = refl
 nothing_heard h all n (event ∷ events) = inl (none_of h n event all)
@@ -156,7 +157,8 @@ nothing_early {A = A} early h all n events log is none =
     let empty : HeardFrom early h all n events [] = subst (λ (b : Bool). HeardFrom b h all n events []) (sym is) (nothing_heard h all n events) in
     subst (λ (l : List (Entry _ A)). HeardFrom early h all n events l) (sym none) empty
 
--- a log by its first event: all that it brings, and the rest; or the beginning of that
+-- A log by its first event: all entries that the event brings and the rest of the log, or only some
+-- of these entries.
 pub record Opened {I A : Type 0} (early : Bool) (h : Hearing I A) (all : Connections I) (n : ℕ) (event : Event) (events : List Event) (log : List (Entry I A)) : Type 0 where
   pub mine : List (Entry I A)
   pub rest : List (Entry I A)
@@ -170,7 +172,7 @@ opened false h all n event events log (mine, rest, parts, brought, later) = reco
 opened true h all n event events log (inl begun) = record { mine = log; rest = []; parts = sym (append-nil log); heard = inr (refl, begun, refl) }
 opened true h all n event events log (inr (mine, rest, parts, brought, later)) = record { mine = mine; rest = rest; parts = parts; heard = inl (brought, later) }
 
--- ---- where one log ends
+-- ---- one log ends
 
 ended_first : {I A : Type 0} (early early' : Bool) (h : Hearing I A) (log others : List (Entry I A)) → early ≡ true → log ≡ [] → AskedAlike early early' h log others
 ended_first {I = I} {A = A} early early' h log others is none = subst (λ (l : List (Entry I A)). AskedAlike early early' h l others) (sym none) (by others)
@@ -198,7 +200,7 @@ failed_second early early' h two (one ∷ log) others fails = λ other stands. a
 
 -- ---- the entries of a piece
 
--- from this connection on: the entries of the n-th event that are left, and the log after them
+-- From this connection on: the remaining entries of the n-th event, and the log after them.
 abbrev pub Goes : {I A : Type 0} → Bool → Hearing I A → ℕ → ℕ → List Event → Connection I → Connections I → List (Entry I A) → List (Entry I A) → Type 0
 Goes early h n c events known all mine rest =
     (AreBrought h n c known mine × HeardFrom early h (after_entries h mine all) (n + 1) events rest)
@@ -219,7 +221,7 @@ goes_end : {I A : Type 0} (early : Bool) (h : Hearing I A) (n c : ℕ) (events :
 goes_end early h n c events known all rest (inl (brought, later)) = later
 goes_end early h n c events known all rest (inr (is, begun, none)) = nothing_early early h all (n + 1) events rest is none
 
--- where all is brought, an entry that comes next has failed
+-- If the event has brought all of its entries, a next entry has failed.
 none_next : {I A : Type 0} (h : Hearing I A) → IsReading h.reads → (n c : ℕ) (known : Connection I) (entry : Entry I A)
     → (known.ended ≡ true) ⊎ IsReadThrough h known → IsNextEntry h n c known entry → Stands h entry → ⊥
 none_next h law n c known entry (inl closed) next stands = let no : true ≡ false = sym closed ∙ next.open_still in cc
@@ -233,7 +235,7 @@ same_next h law n c known one two next next' stands stands' = record {
   subject = next_once h law known one.subject two.subject stands.legible stands'.legible next.subject next'.subject;
 }
 
--- what the later events bring is asked alike
+-- The later events bring the same subjects.
 abbrev pub AreLaterAlike : {I A : Type 0} → Bool → Bool → Hearing I A → ℕ → List Event → Type 0
 AreLaterAlike {I = I} {A = A} early early' h n events =
     (all : Connections I) (rest rest' : List (Entry I A)) → HeardFrom early h all n events rest → HeardFrom early' h all n events rest' → AskedAlike early early' h rest rest'
@@ -267,7 +269,7 @@ piece_alike {I = I} early early' h law n c events later known all (one ∷ mine)
 
 -- ---- an event
 
--- an event that brings nothing
+-- An event that brings nothing.
 quiet : {I A : Type 0} (early : Bool) (h : Hearing I A) (all : Connections I) (n : ℕ) (event : Event) (events : List Event) (log : List (Entry I A))
     → ((mine : List (Entry I A)) → IsBroughtBy h n event all mine → mine ≡ []) → ((mine : List (Entry I A)) → IsBegunBy h n event all mine → mine ≡ [])
     → Opened early h all n event events log → HeardFrom early h (after_event event all) (n + 1) events log
@@ -286,7 +288,7 @@ quiet {I = I} {A = A} early h all n event events log brings begins o = by o.hear
         let empty : log ≡ [] = o.parts ∙ ap (λ (l : List (Entry I A)). l ++ o.rest) none ∙ nothing in
         nothing_early early h (after_event event all) (n + 1) events log is empty
 
--- an event that brings one entry with this subject
+-- An event that brings one entry with this subject.
 pub record AskedOnce {I A : Type 0} (early : Bool) (h : Hearing I A) (all : Connections I) (n : ℕ) (subject : Subject I) (events : List Event) (log : List (Entry I A)) : Type 0 where
   pub answer : A
   pub rest : List (Entry I A)
@@ -350,7 +352,7 @@ still_begins : {I A : Type 0} (h : Hearing I A) (n c : ℕ) (bytes : List ℕ) (
 still_begins h n c bytes known mine still (inl (closed, none)) = let no : true ≡ false = sym closed ∙ still in absurd cc
 still_begins h n c bytes known mine still (inr (other, begun)) = begun
 
--- the piece of a connection that goes on
+-- The piece of a connection that goes on.
 piece_goes : {I A : Type 0} (early : Bool) (h : Hearing I A) (all : Connections I) (n c : ℕ) (bytes : List ℕ) (events : List Event) (log : List (Entry I A)) (known : Connection I)
     → all c ≡ Some known → is_closed known ≡ false → (o : Opened early h all n (Piece c bytes) events log)
     → Goes early h n c events (with_bytes bytes known) (after_event (Piece c bytes) all) o.mine o.rest
@@ -363,7 +365,7 @@ piece_goes {I = I} early h all n c bytes events log known is still o = by o.hear
     by (inr (ends, begun, nothing)) = inr (ends, still_begins h n c bytes known o.mine still (subst (λ (k : Option (Connection I)). PieceBegins h n c bytes k o.mine) is begun), nothing)
 
 module _ {I A : Type 0} (early early' : Bool) (h : Hearing I A) (law : IsReading h.reads) (all : Connections I) (n : ℕ) (events : List Event) (later : AreLaterAlike early early' h (n + 1) events) (log others : List (Entry I A)) where
-  -- an event that brings nothing in either run
+  -- An event that brings nothing in either run.
   quiet_alike : (event : Event) → ((mine : List (Entry I A)) → IsBroughtBy h n event all mine → mine ≡ []) → ((mine : List (Entry I A)) → IsBegunBy h n event all mine → mine ≡ [])
       → Opened early h all n event events log → Opened early' h all n event events others → AskedAlike early early' h log others
   quiet_alike event brings begins o o' =
@@ -409,7 +411,7 @@ no_events : {I A : Type 0} (early : Bool) (h : Hearing I A) (all : Connections I
 no_events false h all n log heard = heard
 no_events true h all n log heard = heard
 
--- logs of the same events, from connections that stand so
+-- Logs of the same events, from the same connections.
 pub asked_alike : {I A : Type 0} (early early' : Bool) (h : Hearing I A) → IsReading h.reads → (events : List Event) (n : ℕ) → AreLaterAlike early early' h n events
 asked_alike early early' h law [] n = λ all log others heard heard'.
     both_empty early early' h log others (no_events early h all n log heard) (no_events early' h all n others heard')

@@ -24,12 +24,12 @@ pub stands : (lazy : Bool) (app : Application) (sessions : List Session) (worlds
 stands lazy app sessions worlds entry is on =
     record { goes_on = on; legible = legible lazy app worlds entry.subject entry.answer is on }
 
--- the second answer, to the first subject
+-- The second answer is an answer to the first subject.
 to_first : (lazy : Bool) (app : Application) (worlds : Worlds) (one two : LogEntry) → IsSameAsked one two
     → IsAnswer lazy app worlds two.subject two.answer → IsAnswer lazy app worlds one.subject two.answer
 to_first lazy app worlds one two same is = subst (λ (s : LogSubject). IsAnswer lazy app worlds s two.answer) (sym same.subject) is
 
--- entries that are asked the same are one step of the same world
+-- Entries with the same request are one step of the same world.
 same_step : (lazy lazy' : Bool) (w : ℕ → Bool) (app : Application) (worlds worlds' : Worlds) (one two : LogEntry) → worlds w ≡ worlds' w → IsSameAsked one two
     → IsAnswer lazy app worlds one.subject one.answer → IsAnswer lazy' app worlds' two.subject two.answer → NeitherFailed one two
     → IsSameStep w app one two (worlds w) (worlds' w)
@@ -50,7 +50,7 @@ same_reply one two asks same = record {
       ∙ seen_put spelling two.source two.subject two.answer;
 }
 
--- labels that show the same of the starts show the same of the worlds now
+-- Labels that show the same of the starts still show the same of the worlds.
 abbrev pub StillSame : State → State → Worlds → Worlds → Type 0
 StillSame start start' worlds worlds' = (w : ℕ → Bool) → LookSame w start start' → worlds w ≡ worlds' w
 
@@ -66,7 +66,7 @@ look_entries lazy lazy' start start' app worlds worlds' one two still asks is is
 
 -- ---- over logs
 
--- the worlds after an entry
+-- The worlds after an entry.
 abbrev pub behind : Application → LogEntry → Worlds → Worlds
 behind app entry worlds w = after_entry w app entry (worlds w)
 
@@ -116,7 +116,7 @@ as_long early early' (one ∷ log) [] whole whole' same = let wrong : true ≡ f
 as_long early early' (one ∷ log) (two ∷ others) whole whole' same =
     let rest : length log ≡ length others = as_long early early' log others whole whole' same.1 in ap suc rest
 
--- as many entries that agree leave the same world
+-- If two logs agree and have equally many entries, they leave the same world.
 ends_from : (w : ℕ → Bool) (early early' : Bool) (app : Application) (log others : List LogEntry) (t u : PlainState) → t ≡ u → AgreeAfterEach w app early early' log others t u → NoneFailed log → NoneFailed others
     → length log ≡ length others → after_log w app log t ≡ after_log w app others u
 ends_from w early early' app [] [] t u same agree none none' long = same
@@ -126,9 +126,9 @@ ends_from w early early' app (one ∷ log) (two ∷ others) t u same agree none 
     let both = agree (none.0, none'.0) in
     ends_from w early early' app log others (after_entry w app one t) (after_entry w app two u) both.0.left both.1 none.1 none'.1 (omega (arith, long))
 
--- ---- what somebody sees
+-- ---- what an observer sees
 
--- an entry that is seen, and the rest
+-- An entry that is seen, and the rest.
 seen_both : (b : Bool) (one two : LogEntry) (log others : List LogEntry)
     → (labels_of (if b then seen_entry one ∷ log else log) ≡ labels_of (if b then seen_entry two ∷ others else others))
     → (b ≡ true → one.answer.shown ≡ two.answer.shown → seen_entry one ≡ seen_entry two)
@@ -150,7 +150,7 @@ pub by_labels : (start start' : State) (o : Option (List ℕ)) (one two : LogEnt
 by_labels start start' None one two same look is is' = (same.refusal is is').answer
 by_labels start start' (Some labels) one two same look is is' = (same.page labels (look labels is) is is').answer
 
--- the labels of what is seen
+-- The labels of what is seen.
 look_seen : (b : Bool) (start start' : State) (one : LogEntry) (log : List LogEntry) → LookSameFor start start' (if b then seen_entry one ∷ log else log)
     → ((b ≡ true) → (labels : List ℕ) → one.answer.shown ≡ Some labels → LookSame (shown_by labels) start start') × LookSameFor start start' log
 look_seen true start start' one log look = (λ on. look.0, look.1)
@@ -183,7 +183,7 @@ seen_log app worlds (entry ∷ log) answered =
     let rest = seen_log app (behind app entry worlds) log answered.1 in
     λ i. record entry { answer = first i } ∷ rest i
 
--- a run in which each page resolved all labels
+-- A run in which each page resolved all labels.
 pub answered_whole : (app : Application) (worlds : Worlds) (lazy : Bool) (log : List LogEntry) → lazy ≡ false
     → AreAnswered lazy app worlds log → AreAnswered false app worlds log
 answered_whole app worlds lazy log is answered = subst (λ (b : Bool). AreAnswered b app worlds log) is answered

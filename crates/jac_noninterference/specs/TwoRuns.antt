@@ -1,5 +1,4 @@
--- Two runs side by side: what they were asked, the worlds of one assignment in both, and their
--- replies.
+-- Two runs side by side: their requests, the worlds of one assignment in both, and their replies.
 use Rattle.std.specs.Prelude.{◌≡◌, ℕ, Bool, true, false, if◌then◌else◌, Option, Some, None, is_some, List, [], ◌∷◌, length, map, ⊤}
 use Rattle.jac_world.specs.World.{shown_by}
 use Rattle.jac_lang.specs.Syntax.{Application}
@@ -15,8 +14,8 @@ use Rattle.jac_dispatch.specs.Log.{Serves, after_entry}
 use Rattle.jac_replies.specs.declared.answer.Answer.{Answer}
 use Rattle.jac_replies.specs.declared.reply.Spelling.{Spelling}
 
--- a run: whether a GET's page resolves only what it consults, whether it may stop early, the state
--- that it starts from, its log, and the state that it leaves
+-- A run: whether a GET's page resolves only the labels that it consults, whether the run may stop
+-- early, its first state, its log, and the state that it leaves.
 pub record OneRun : Type 0 where
   pub lazy : Bool
   pub early : Bool
@@ -24,31 +23,32 @@ pub record OneRun : Type 0 where
   pub log : List LogEntry
   pub finish : State
 
--- the run answers these events
+-- The run answers these events.
 abbrev pub IsRunServed : Application → List Session → List Event → OneRun → Type 0
 IsRunServed app sessions events run =
     Serves run.lazy run.early app sessions run.start events run.log run.finish
 
--- the assignment shows the same of both states
+-- The assignment shows the same of both states.
 abbrev pub LookSame : (ℕ → Bool) → State → State → Type 0
 LookSame w start other = project_at w start ≡ project_at w other
 
--- no answer of the log stands for want of memory or a fault of the keeper
+-- No entry of the log failed because it was out of memory or because of a fault of the keeper.
 abbrev pub NoneFailed : List LogEntry → Type 0
 NoneFailed [] = ⊤
 NoneFailed (entry ∷ log) = (is_failure entry.answer ≡ false) × NoneFailed log
 
--- neither answer does
+-- Neither entry failed.
 abbrev pub NeitherFailed : LogEntry → LogEntry → Type 0
 NeitherFailed one two = (is_failure one.answer ≡ false) × (is_failure two.answer ≡ false)
 
--- the same was asked, by the same source, and in the same event
+-- The entries answer the same request, from the same source and in the same event.
 pub record IsSameAsked {I A : Type 0} (one two : EntryOf I A) : Type 0 where
   pub place : one.place ≡ two.place
   pub source : one.source ≡ two.source
   pub subject : one.subject ≡ two.subject
 
--- entry by entry the same was asked; a log ends before the other only where its run may stop early
+-- Entry by entry the requests are the same. A log ends before the other only if its run may stop
+-- early.
 abbrev pub HaveSameSubjects : Bool → Bool → List LogEntry → List LogEntry → Type 0
 HaveSameSubjects early other [] [] = ⊤
 HaveSameSubjects early other [] (two ∷ others) = early ≡ true
@@ -56,16 +56,16 @@ HaveSameSubjects early other (one ∷ log) [] = other ≡ true
 HaveSameSubjects early other (one ∷ log) (two ∷ others) =
     IsSameAsked one two × HaveSameSubjects early other log others
 
--- in these two worlds the same was asked, both answers have a page or neither has, and they leave
--- the same world
+-- In these two worlds the requests are the same, both answers have a page or neither has, and the
+-- worlds after the entries are the same.
 pub record IsSameStep (w : ℕ → Bool) (app : Application) (one two : LogEntry) (t u : PlainState)
     : Type 0 where
   pub asked : IsSameAsked one two
   pub page : is_some one.answer.shown ≡ is_some two.answer.shown
   pub left : after_entry w app one t ≡ after_entry w app two u
 
--- from these two worlds on, entry by entry, until one of two entries has failed; a log ends before
--- the other only where its run may stop early, or where the other has failed
+-- From these two worlds on, entry by entry, until one of two entries has failed. A log ends before
+-- the other only if its run may stop early, or if the next entry of the other failed.
 abbrev pub AgreeAfterEach : (ℕ → Bool) → Application → Bool → Bool → List LogEntry → List LogEntry
     → PlainState → PlainState → Type 0
 AgreeAfterEach w app early other [] [] t u = ⊤
@@ -78,35 +78,35 @@ AgreeAfterEach w app early other (one ∷ log) (two ∷ others) t u =
     × AgreeAfterEach w app early other log others
     (after_entry w app one t) (after_entry w app two u)
 
--- two runs to their ends
+-- Two runs at their ends.
 pub record EndAlike (w : ℕ → Bool) (one two : OneRun) : Type 0 where
-  -- the same was asked
+  -- The requests are the same.
   pub subjects : HaveSameSubjects one.early two.early one.log two.log
-  -- where neither may stop early, they have as many entries
+  -- If neither run may stop early, they have equally many entries.
   pub long : one.early ≡ false → two.early ≡ false → length one.log ≡ length two.log
-  -- where they have as many entries, the assignment shows the same of what they leave
+  -- If they have equally many entries, the assignment shows the same of what they leave.
   pub ends : length one.log ≡ length two.log → LookSame w one.finish two.finish
 
--- what is seen of an answer by whom it is sent to: all but the labels that were consulted for it,
--- of which the audit alone tells
+-- What its receiver sees of an answer: all but the labels that were consulted for it, which only
+-- the audit contains.
 abbrev pub seen_answer : Answer → Answer
 seen_answer answer = record answer { consulted = None }
 
--- what is seen of the answers is equal, and so are the bytes that are put, on an output or on a
--- connection
+-- The seen parts of the answers are equal, and so are the bytes that are written to an output or a
+-- connection.
 pub record IsSameReply (one two : LogEntry) : Type 0 where
   pub answer : seen_answer one.answer ≡ seen_answer two.answer
   pub put : (spelling : Spelling) → entry_on spelling one ≡ entry_on spelling two
 
--- replies without a page are the same, and so are those whose pages were made under the same
--- labels, where these labels show the same of both starts
+-- The replies are the same if they have no page. They are also the same if their pages were made
+-- under the same labels and these labels show the same of both starts.
 pub record IsSameWhereShown (start other : State) (one two : LogEntry) : Type 0 where
   pub refusal : one.answer.shown ≡ None → two.answer.shown ≡ None → IsSameReply one two
   pub page :
       (labels : List ℕ) → LookSame (shown_by labels) start other
       → one.answer.shown ≡ Some labels → two.answer.shown ≡ Some labels → IsSameReply one two
 
--- entry by entry, until one of two entries has failed
+-- Entry by entry, until one of two entries has failed.
 abbrev pub AreSameWhereShown : State → State → List LogEntry → List LogEntry → Type 0
 AreSameWhereShown start other [] others = ⊤
 AreSameWhereShown start other (one ∷ log) [] = ⊤
@@ -117,27 +117,27 @@ AreSameWhereShown start other (one ∷ log) (two ∷ others) =
 abbrev pub seen_entry : LogEntry → LogEntry
 seen_entry entry = record entry { answer = seen_answer entry.answer }
 
--- what somebody sees of a log, to whom a test of its source and its subject gives an entry or not:
--- the entries of one connection, say, or of one viewer
+-- What an observer sees of a log: the entries whose source and subject pass a test, for example
+-- those of one connection or of one viewer.
 abbrev pub seen_by : (Source → LogSubject → Bool) → List LogEntry → List LogEntry
 seen_by sees [] = []
 seen_by sees (entry ∷ log) =
     if sees entry.source entry.subject then seen_entry entry ∷ seen_by sees log
     else seen_by sees log
 
--- the labels of each page, as the audit has them
+-- The labels of each page, as in the audit.
 abbrev pub labels_of : List LogEntry → List (Option (List ℕ))
 labels_of log = map (λ entry. entry.answer.shown) log
 
--- under the labels of each page the states look the same
+-- Under the labels of each page, the states look the same.
 abbrev pub LookSameFor : State → State → List LogEntry → Type 0
 LookSameFor start other [] = ⊤
 LookSameFor start other (entry ∷ log) =
     ((labels : List ℕ) → entry.answer.shown ≡ Some labels → LookSame (shown_by labels) start other)
     × LookSameFor start other log
 
--- two whole runs in which nothing failed; somebody was shown pages under the same labels in both,
--- and under each of them the starts look the same
+-- Two whole runs in which nothing failed. The observer's pages have the same labels in both, and
+-- under the labels of each page the starts look the same.
 pub record AreSeenAlike (sees : Source → LogSubject → Bool) (one two : OneRun) : Type 0 where
   pub whole : one.early ≡ false
   pub whole_too : two.early ≡ false

@@ -1,5 +1,5 @@
-//! The laws of two runs: what an assignment can't tell apart at the start it can't tell apart
-//! later, and the pages that are made under it are the same.
+//! Laws on two runs. Stores that look the same under an assignment stay so, and pages made under it
+//! are the same.
 #![tactic(auto)]
 
 mod laws;
