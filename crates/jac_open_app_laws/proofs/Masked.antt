@@ -1,4 +1,4 @@
--- What reads no guarded field is the same with the guarded cells masked.
+-- Whatever reads no guarded field has the same result if the guarded cells are masked.
 use Rattle.std.proofs.Common.{◌≡◌, ◌∙◌, sym, refl, ap, arith, ℕ, zero, suc, ◌+◌, ◌==◌, ◌&&◌, not, Bool, true, false, if◌then◌else◌, List, [], ◌∷◌, ◌++◌, Option, Some, None, slice_get, unwrap_or}
 use Rattle.std.proofs.lemmas.Bool.{and_parts}
 use Rattle.jac_value.specs.Ids.{model_of_id, record_of_label, group_of_label}
@@ -30,7 +30,7 @@ masked_record models m (Some r) = Some (masked_row models m r)
 abbrev pub masked_world : World → World
 masked_world w = record w { tables = masked_tables w.models 0 w.tables }
 
--- the cell at a place where the function changes nothing
+-- The cell at a place at which the function changes nothing.
 each_get : (cell_of : ℕ → Value → Value) (i from : ℕ) (cells : List Value)
     → ((g : ℕ) → g ≡ from + i → (v : Value) → cell_of g v ≡ v)
     → slice_get (each_cell cell_of from cells) i ≡ slice_get cells i
@@ -112,7 +112,7 @@ live_masked w (value.Int i) = refl
 live_masked w (value.Text t) = refl
 live_masked w (value.Bool b) = refl
 
--- the answers of a query are tuples of ids
+-- The answers of a query are tuples of ids.
 
 extended_masked : (models : List Entity) (m : ℕ) (ids : List ℕ) (rows : List PlainRow)
     → extended_tuples ids (masked_records models m rows) ≡ extended_tuples ids rows
@@ -148,7 +148,7 @@ ordered_masked w bs orders.Key tuples h = refl
 ordered_masked w bs (orders.Up name field) tuples h = ap (λ key. sorted_tuples is_less key tuples) (key_masked w bs name field h)
 ordered_masked w bs (orders.Down name field) tuples h = ap (λ key. sorted_tuples (λ a b. is_less b a) key tuples) (key_masked w bs name field h)
 
--- two functions that are equal at each argument are equal
+-- Two functions that are equal at each argument are equal.
 pub answers_masked : (w : World) (bs : List Binder) (o : Order) (cond other : List Binding → Value) (env : List Binding)
     → is_open_order w.models bs o ≡ true → cond ≡ other
     → answers_by (masked_world w) bs o cond env ≡ answers_by w bs o other env
@@ -219,7 +219,7 @@ same_meaning app t u this viewer e env h alike =
     ∙ ap (λ s. mean (world_over app this viewer s.tables) e env) alike
     ∙ mean_masked (world_over app this viewer u.tables) e env h
 
--- each policy of an open application is open
+-- Each policy of an open application is open.
 
 both_open : (models : List Entity) (g : FieldGroup) (gs : List FieldGroup) → are_open_groups models (g ∷ gs) ≡ true
     → (is_open models g.policy ≡ true) × (are_open_groups models gs ≡ true)
@@ -250,7 +250,7 @@ same_record app t u k alike =
     ∙ ap (λ s. has_record s k) alike
     ∙ has_masked app.models u.tables (record_of_label k)
 
--- stated over a variable for the group that was found
+-- The theorem for any group that may have been found.
 same_of : (app : Application) (t u : PlainState) (viewer : Option ℕ) (id : ℕ) (found : Option FieldGroup)
     → ((g : FieldGroup) → found ≡ Some g → is_open app.models g.policy ≡ true) → AreAlike app t u
     → policy_is_true found (policy_world app t viewer id) ≡ policy_is_true found (policy_world app u viewer id)

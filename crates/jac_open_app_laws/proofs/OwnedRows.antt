@@ -1,4 +1,4 @@
--- Rows that depend on their own labels, through the steps of a write.
+-- Rows still depend on their own labels alone after each step of a write.
 use Rattle.std.proofs.Common.{◌≡◌, ◌∙◌, sym, refl, ap, subst, arith, ℕ, zero, suc, ◌+◌, ◌==◌, nat_lt, ◌&&◌, not, Bool, true, false, if◌then◌else◌, List, [], ◌∷◌, ◌++◌, Option, Some, None, is_some}
 use Rattle.std.specs.Prelude.{slice_set}
 use Rattle.std.proofs.lemmas.Bool.{and_parts}
@@ -15,7 +15,7 @@ use Rattle.jac_plain.specs.Records.{fitting, cell_set, drafted_cells, each_cell,
 use Rattle.jac_open_app_laws.specs.Open.{is_guarded_at, is_open, masked_cells, masked_records, masked_tables}
 use Rattle.jac_open_app_laws.specs.Owned.{AgreeOfRecord, IsOwned, AreOwned, AreOwnedTables, are_open_sets}
 
--- ---- tables that are equal but for guarded cells
+-- ---- tables that are equal except for guarded cells
 
 masked_same : (models : List Entity) (m : ℕ) (v w : ℕ → Bool) (rows others : List PlainRow) → AreOwned models m v w rows others
     → masked_records models m rows ≡ masked_records models m others
@@ -37,7 +37,7 @@ tables_masked_same models m v w (rows ∷ tables) (others ∷ more) h =
 
 -- ---- cells
 
--- a cell that is put in its place
+-- A cell that is put in its place.
 each_set : (g : ℕ → Value → Value) (from i : ℕ) (cells : List Value) (x : Value)
     → each_cell g from (slice_set cells i x) ≡ slice_set (each_cell g from cells) i (g (from + i) x)
 each_set g from zero [] x = refl
@@ -47,7 +47,7 @@ each_set g from (suc i) (c ∷ cells) x =
     let there : from + 1 + i ≡ from + suc i = omega arith in
     ap (λ t. g from c ∷ t) (each_set g (from + 1) i cells x ∙ ap (λ n. slice_set (each_cell g (from + 1) cells) i (g n x)) there)
 
--- what a group shields is masked
+-- The cells that a group shields are masked.
 cell_shielded : (group : Option ℕ) (shown : ℕ → Bool) (id : ℕ) (named : Bool) (other cell : Value)
     → (if is_some group then value.Bool false else (if named && is_hidden_by shown id group then other else cell))
     ≡ (if is_some group then value.Bool false else cell)
@@ -70,7 +70,7 @@ hidden_same : (shown other : ℕ → Bool) (id : ℕ) (group : Option ℕ) → (
 hidden_same shown other id None h = refl
 hidden_same shown other id (Some g) h = ap not (h g refl)
 
--- what is stored of two drafts of a record
+-- What two drafts of a record store.
 pub shielded_owned : (models : List Entity) (m id : ℕ) (v w : ℕ → Bool) (named : ℕ → Bool) (one two : List Value)
     → masked_cells models m one ≡ masked_cells models m two → (AgreeOfRecord models m id v w → one ≡ two)
     → IsOwned models m v w (plain_row id (shielded_cells models v m id named one)) (plain_row id (shielded_cells models w m id named two))
@@ -83,7 +83,7 @@ shielded_owned models m id v w named one two clear own = record {
       λ i. each_cell (λ f cell. if named f && hidden f i then public_cell models m id (own agree i) f cell else cell) 0 (own agree i);
 }
 
--- drafts of the same values
+-- Drafts of the same values.
 pub drafted_same : (models : List Entity) (fields : List Field) (one two : Expression → Value) (sets : List Assigned) (cells : List Value)
     → ((e : Expression) → is_open models e ≡ true → one e ≡ two e) → are_open_sets models sets ≡ true
     → drafted_cells models fields one sets cells ≡ drafted_cells models fields two sets cells
@@ -209,7 +209,7 @@ owned_with models m id v w one two tables more new h =
     owned_set models 0 m m v w tables more (with_row (plain_row id one) (rows_of tables m)) (with_row (plain_row id two) (rows_of more m)) (omega arith) h
     (owned_row models m v w id one two (rows_of tables m) (rows_of more m) new (owned_rows models 0 m m v w tables more (omega arith) h))
 
--- a step on the record that a value refers to
+-- A step on the record to which a value refers.
 pub owned_after : (models : List Entity) (m : ℕ) (v w : ℕ → Bool) (target : Value) (one two : ℕ → List PlainRow → List PlainRow) (tables more : List (List PlainRow))
     → ((id : ℕ) (rows others : List PlainRow) → AreOwned models m v w rows others → AreOwned models m v w (one id rows) (two id others))
     → AreOwnedTables models 0 v w tables more → AreOwnedTables models 0 v w (tables_after m target one tables) (tables_after m target two more)
@@ -221,7 +221,7 @@ owned_after models m v w (value.Int i) one two tables more step h = h
 owned_after models m v w (value.Text t) one two tables more step h = h
 owned_after models m v w (value.Bool b) one two tables more step h = h
 
--- ---- what shows the same under each assignment
+-- ---- states that are the same under each assignment
 
 rows_alone : (models : List Entity) (m : ℕ) (v w : ℕ → Bool) (rows : List PlainRow) → AreOwned models m v w rows rows
 rows_alone models m v w [] = tt

@@ -1,4 +1,5 @@
--- Statements that read no guarded field keep what a record holds to its own labels.
+-- After statements that read no guarded field, what a record holds still depends on its own labels
+-- alone.
 use Rattle.std.proofs.Common.{◌≡◌, ◌∙◌, sym, refl, ap, subst, ℕ, ◌+◌, ◌&&◌, not, Bool, true, false, List, [], ◌∷◌, ◌++◌, length, take, Option, Some, None, slice_get}
 use Rattle.std.proofs.lemmas.Bool.{and_parts}
 use Rattle.jac_value.specs.Values.{value_text}
@@ -28,7 +29,7 @@ use Rattle.jac_open_app_laws.proofs.OwnedRows.{tables_masked_same, shielded_owne
 abbrev world_in : List Entity → Option ℕ → List (List PlainRow) → World
 world_in models viewer tables = record { models = models; this = None; viewer = viewer; tables = tables }
 
--- runs under two assignments, so far
+-- Two runs under two assignments, up to the same statement.
 record RunsOwned (models : List Entity) (v w : ℕ → Bool) (r s : Run) : Type 0 where
   tables : AreOwnedTables models 0 v w r.tables s.tables
   env : r.env ≡ s.env

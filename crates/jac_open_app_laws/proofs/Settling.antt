@@ -1,4 +1,5 @@
--- Where whether a label is allowed doesn't depend on what is shown, one list of labels is settled.
+-- If whether a label is allowed doesn't depend on the assignment, exactly one list of labels is
+-- settled.
 use Rattle.std.proofs.Common.{◌≡◌, ◌∙◌, ◌↔◌, sym, refl, ap, subst, arith, inl, inr, ℕ, zero, suc, ◌<◌, ◌==◌, ◌&&◌, ◌||◌, Bool, true, false, true≢false, if◌then◌else◌, List, [], ◌∷◌, ◌++◌, Option, Some, None}
 use Rattle.std.proofs.lemmas.Bool.{and_parts, and_from, or_left, or_right, cases_lt}
 use Rattle.std.proofs.lemmas.Bool.Decides.{nat_tests, eqb_tells, Decides-eqb}
@@ -28,7 +29,7 @@ bool_eq true b p q = sym (p refl)
 bool_eq false true p q = q refl
 bool_eq false false p q = refl
 
--- rising lists that show the same are equal
+-- Rising lists that show the same labels are equal.
 
 above_too : (j k : ℕ) (xs : List ℕ) → j < k → StartsAboveBy (λ x. x) k xs → StartsAboveBy (λ x. x) j xs
 above_too j k [] lt a = tt
@@ -84,7 +85,7 @@ ascending_same (x ∷ xs) (y ∷ ys) a b h =
     let rest : xs ≡ ys = ascending_same xs ys a.1 b.1 (λ k. rest_same x y k xs ys same a b (h k)) in
     λ i. same i ∷ rest i
 
--- numbers that are picked
+-- The numbers that pass a test.
 
 with_one : (p t s : Bool) → (p ≡ true → t ≡ true) → (p || (t && s)) ≡ (t && (p || s))
 with_one true true s h = refl
@@ -114,7 +115,7 @@ ascending-picked : (test : ℕ → Bool) (ks : List ℕ) → IsAscending (passin
 ascending-picked test [] = tt
 ascending-picked test (k ∷ ks) = ascending_if k (passing_numbers test ks) (test k) (ascending-picked test ks)
 
--- the labels of the records of tables
+-- The labels of the records of tables.
 
 first_has : (xs ys : List ℕ) (k : ℕ) → shown_by xs k ≡ true → shown_by (xs ++ ys) k ≡ true
 first_has xs ys k h = list_any-append (λ x. x == k) xs ys ∙ or_left (shown_by xs k) (shown_by ys k) h
@@ -162,7 +163,7 @@ allowed_among app t viewer k h =
     let id = record_of_label k in
     in_tables k (model_of_id id) t.tables (in_records id k (rows_of t.tables (model_of_id id)) refl (and_parts (has_record t k) (is_policy_true app t viewer k) h).0)
 
--- the labels that are allowed in a state, as a list
+-- The labels that are allowed in a state, as a list.
 pub shown_allowed : (app : Application) (t : PlainState) (viewer : Option ℕ) (k : ℕ)
     → shown_by (allowed_labels app t viewer) k ≡ is_allowed app t viewer k
 shown_allowed app t viewer k =
@@ -173,7 +174,7 @@ group_there : (found : Option FieldGroup) (w : World) → policy_is_true found w
 group_there None w h = h
 group_there (Some g) w h = refl
 
--- a label that is allowed somewhere is live
+-- A label that is allowed in some world is live.
 live_if : (app : Application) (worlds : Worlds) (viewer : Option ℕ) (w : ℕ → Bool) (k : ℕ)
     → is_allowed app (worlds w) viewer k ≡ true → IsLiveLabel app worlds k
 live_if app worlds viewer w k h =
@@ -195,7 +196,7 @@ module _ (app : Application) (worlds : Worlds) (viewer : Option ℕ) (g : ℕ �
       sym (still_allowed labels k refusing.label (k == refusing.label) refl h settled refusing.is_shown)
       ∙ sym (same (with_label k (shown_by labels)) refusing.label) ∙ refusing.forbidden))
 
-  -- what is settled is what is allowed
+  -- The settled labels are the allowed ones.
   pub settled_shows : (labels : List ℕ) → IsSettled app worlds viewer labels → (k : ℕ) → shown_by labels k ≡ g k
   settled_shows labels settled k =
       bool_eq (shown_by labels k) (g k) (λ s. sym (same (shown_by labels) k) ∙ settled.allowed k s) (shown_if labels k (shown_by labels k) refl settled)
@@ -267,7 +268,7 @@ pub law_one : (app : Application) (worlds : Worlds) (viewer : Option ℕ) (label
     → (IsSettled app worlds viewer labels ↔ (labels ≡ allowed_labels app (worlds nothing) viewer))
 law_one app worlds viewer labels clear even = one_settled app worlds viewer clear even labels
 
--- the labels that are allowed are the same where nothing is shown
+-- The allowed labels of states that are alike are the same.
 same_list : (app : Application) (t u : PlainState) (viewer : Option ℕ) → is_open_app app ≡ true
     → AreAlike app t u → allowed_labels app t viewer ≡ allowed_labels app u viewer
 same_list app t u viewer clear alike =
@@ -284,7 +285,7 @@ law_same app worlds others viewer labels clear even evens alike =
       λ settled. (one_settled app worlds viewer clear even labels).1 ((one_settled app others viewer clear evens labels).0 settled ∙ sym same),
     )
 
--- whatever is settled in the one and in the other
+-- Any settled labels of the one family and of the other are the same.
 pub both_settled : (app : Application) (worlds others : Worlds) (viewer : Option ℕ) (labels more : List ℕ)
     → is_open_app app ≡ true → AreEven app worlds → AreEven app others
     → AreAlike app (worlds nothing) (others nothing) → IsSettled app worlds viewer labels

@@ -7,22 +7,22 @@ use Rattle.jac_rows.specs.declared.plain.PlainRow.{PlainRow}
 use Rattle.jac_rows.specs.declared.plain.PlainState.{PlainState}
 use Rattle.jac_plain.specs.Policies.{is_allowed}
 
--- the numbers that pass the test, in rising order, each once
+-- The numbers that pass the test, in rising order, each once.
 abbrev pub passing_numbers : (ℕ → Bool) → List ℕ → List ℕ
 passing_numbers test [] = []
 passing_numbers test (k ∷ ks) = if test k then with_number k (passing_numbers test ks)
     else passing_numbers test ks
 
--- the labels that records can have, whose models have eight groups at most
+-- The labels that these records can have. Their models have at most eight groups.
 abbrev pub labels_of_records : List PlainRow → List ℕ
 labels_of_records [] = []
 labels_of_records (r ∷ rows) = labels_below r.id 8 ++ labels_of_records rows
 
--- those of all tables
+-- The labels that the records of all tables can have.
 abbrev pub labels_of_tables : List (List PlainRow) → List ℕ
 labels_of_tables [] = []
 labels_of_tables (rows ∷ tables) = labels_of_records rows ++ labels_of_tables tables
 
--- the labels that are allowed in the state, in rising order
+-- The labels that are allowed in the state, in rising order.
 abbrev pub allowed_labels : Application → PlainState → Option ℕ → List ℕ
 allowed_labels app t viewer = passing_numbers (is_allowed app t viewer) (labels_of_tables t.tables)

@@ -1,5 +1,5 @@
-//! The laws of open applications, whose policies read nothing that a group guards: what a viewer is
-//! shown depends on nothing that is hidden.
+//! Laws on open applications, whose policies read no guarded field: in even worlds, exactly one
+//! list of labels is settled for a viewer.
 #![tactic(auto)]
 
 mod laws;
