@@ -43,7 +43,7 @@ kinds_default : (models : List Entity) (fields : List Field) → have_kinds (kin
 kinds_default models [] = refl
 kinds_default models (f ∷ fields) = rw (default_kind (kind_named models f.kind), kinds_default models fields) refl
 
--- a cell is set to a value that fits
+-- A cell is set to a value that fits.
 kinds_cell : (models : List Entity) (fields : List Field) (f : ℕ) (v : Value) (cells : List Value) → have_kinds (kinds_of_fields models fields) cells ≡ true
     → have_kinds (kinds_of_fields models fields) (slice_set cells f (fitting (kind_in models (slice_get fields f)) v)) ≡ true
 kinds_cell models [] f v [] h = refl
@@ -67,7 +67,7 @@ kinds_drafted models fields value_of (a ∷ rest) cells h =
     kinds_drafted models fields value_of rest (cell_set models fields (field_place fields a.field) (value_of a.value) cells)
     (kinds_set models fields (field_place fields a.field) (value_of a.value) cells h)
 
--- each cell keeps its kind
+-- Each cell keeps its kind.
 kinds_each : (cell_of : ℕ → Value → Value) (kinds : List Kind) (from : ℕ) (cells : List Value)
     → ((f i : ℕ) (k : Kind) (v : Value) → f ≡ from + i → slice_get kinds i ≡ Some k → has_kind k v ≡ true → has_kind k (cell_of f v) ≡ true)
     → have_kinds kinds cells ≡ true → have_kinds kinds (each_cell cell_of from cells) ≡ true
@@ -107,7 +107,7 @@ kinds_shielded models shown m id named draft h =
     (fitting_kind (kind_at models (fields_at models m) f) (value_over models m id draft x))) fits) fits)
     h
 
--- the shape of a model
+-- The shape of a model.
 shape_now : (all models : List Entity) (m id : ℕ) (cells : List Value) → m < length models → have_kinds (kinds_of_fields all (fields_at models m)) cells ≡ true → is_wide id ≡ is_nested_at models m
     → IsSomeAnd (slice_get (shapes_of_models all models) m) (λ s. IsShaped s id cells)
 shape_now all [] m id cells within h w = absurd (omega (arith, within))
@@ -152,7 +152,7 @@ is_keeping = record {
   shaped = λ models number m row h. shaped_from (is_nested_at models m) row.id m h.made.is_one (wide_then models models m row.id row.cells h.fit);
 }
 
--- a good state stays good as the number grows
+-- A good state is good for a greater number too.
 module _ (shapes : List ModelShape) (n : ℕ) where
   later_rows : (m : ℕ) (rows : List PlainRow) → AllByRecursion (λ (r : PlainRow). IsRecord shapes m n r.id r.cells) rows
       → AllByRecursion (λ (r : PlainRow). IsRecord shapes m (n + 1) r.id r.cells) rows
@@ -190,7 +190,7 @@ pub good_after : (w : ℕ → Bool) (app : Application) (t : PlainState) (visit 
     → IsGoodPlain (shapes_of app) (after w app t visit)
 good_after w app t visit good room few sited placed = good_by (method_in (slice_get app.views visit.view)) w app t visit good room few sited placed
 
--- the same of the ids alone
+-- The same for the ids alone.
 abbrev pub IsShapedRow : List Entity → ℕ → ℕ → PlainRow → Type 0
 IsShapedRow models number m r = is_shaped (is_nested_at models m) r.id ≡ true
 

@@ -1,4 +1,4 @@
--- Where no group guards a field, what is stored is the draft, whatever labels are shown.
+-- If no group guards a field, the stored cells are those of the draft, whatever labels are shown.
 use Rattle.std.proofs.Common.{◌≡◌, ◌∙◌, refl, ap, zero, suc, ℕ, ◌+◌, ◌&&◌, not, Bool, true, false, if◌then◌else◌, List, [], ◌∷◌, Option, Some, None}
 use Rattle.std.specs.Prelude.{slice_get}
 use Rattle.std.proofs.lemmas.Bool.{and_parts}

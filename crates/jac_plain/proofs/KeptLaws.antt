@@ -1,5 +1,5 @@
--- Something that holds of each row of each table, and that a create and an update keep, holds of what
--- statements leave, where nested records are created in one loop over one binder.
+-- If a property holds for each row of each table, and creates and updates keep it, it holds after
+-- statements run. Nested records must be created in exactly one loop over one binder.
 use Rattle.std.proofs.Common.{◌≡◌, refl, sym, subst, arith, ℕ, ◌<◌, ◌≤◌, ◌^◌, nat_lt, Bool, true, false, List, [], ◌∷◌, ◌++◌, length, Option, Some, None}
 use Rattle.std.specs.Prelude.{⊤}
 use Rattle.std.specs.List.{AllByRecursion}
@@ -24,7 +24,7 @@ use Rattle.jac_plain.proofs.RowLaws.{rising-with_row, rising-changed, rising-wit
 use Rattle.jac_plain.proofs.MadeIds.{base_narrow, IsAround, IsAroundIn, shaped_by}
 use Rattle.jac_plain.proofs.LoopLaws.{IsLoop, AreLoops, loops_answers}
 
--- what is asked of a setting: its number has ids, and so have its models
+-- The conditions on the number and the models, so that there are ids.
 pub record IsFit (models : List Entity) (number : ℕ) : Type 0 where
   pub some : 0 < number
   pub room : number < 2 ^ 40
@@ -36,7 +36,7 @@ bare = record { name = []; nested = false; fields = []; groups = [] }
 pub model_within : (models : List Entity) (name : List ℕ) (m : ℕ) → model_place models name ≡ Some m → m < length models
 model_within models name m e = (position-Some (λ (x : Entity). same_text x.name name) models m bare e).0
 
--- what is asked of the property
+-- The conditions on the property.
 pub record IsKeeping (P : List Entity → ℕ → ℕ → PlainRow → Type 0) : Type 0 where
   pub made : (k : Setting) (m site : ℕ) (cells : List Assigned) (r : Run) → IsFit k.models k.number → m < length k.models → site < 64
       → is_shaped (is_nested_at k.models m) (id_made k m site) ≡ true
@@ -78,7 +78,7 @@ module _ (P : List Entity → ℕ → ℕ → PlainRow → Type 0) (keeping : Is
   pub kept_flat : (models : List Entity) (number : ℕ) (tables : List (List PlainRow)) → AreKept models number tables → AreFlat models tables
   kept_flat models number tables g m = flat_rows models number m (rows_of tables m) (g m).1
 
-  -- the loop's record at each answer
+  -- The loop's record at each answer.
   arounds_if : (k : Setting) (q : Question) (r : Run) (flat : Bool) → is_flat k.models q.binders ≡ flat → AreKept k.models k.number r.tables
       → AllByRecursion (λ ids. IsAroundIn (Loops.one flat) (loop_of ids)) (answers (world_of k r) q r.env)
   arounds_if k q r true e g = all_around true (answers (world_of k r) q r.env) (loops_answers (world_of k r) q r.env (λ m. (g m).0) (kept_flat k.models k.number r.tables g) e)
@@ -90,7 +90,7 @@ module _ (P : List Entity → ℕ → ℕ → PlainRow → Type 0) (keeping : Is
   arounds k (Loops.one flat) q r g = anyway (λ ids. ⊤) (λ ids. tt) (answers (world_of k r) q r.env)
   arounds k Loops.several q r g = anyway (λ ids. ⊤) (λ ids. tt) (answers (world_of k r) q r.env)
 
-  -- the step leaves such tables
+  -- The step keeps the property of the tables.
   abbrev pub Keeps : List Entity → ℕ → (Run → Run) → Type 0
   Keeps models number step = (r : Run) → AreKept models number r.tables → AreKept models number (step r).tables
 

@@ -1,4 +1,5 @@
--- The answers of a query over one binder of a model that isn't nested: each is one record, and no two are one.
+-- The answers of a query over one binder of a model that isn't nested. Each is one record, and they
+-- are pairwise different.
 use Rattle.std.proofs.Common.{◌≡◌, sym, refl, subst, arith, ℕ, ◌<◌, not, Bool, true, false, if◌then◌else◌, List, [], ◌∷◌, append-nil, Option, Some, None}
 use Rattle.std.specs.Prelude.{⊤}
 use Rattle.std.specs.List.{AllByRecursion}
@@ -19,7 +20,7 @@ use Rattle.jac_plain.specs.Expressions.{mean, is_true, is_less, bound, extended_
 use Rattle.jac_plain.specs.Models.{is_shaped, AreFlat, HaveRisingIds}
 use Rattle.jac_plain.specs.World.{World, rows_at_place}
 
--- an answer that is one record, made outside of loops
+-- The answer is one record that was made outside of loops.
 pub record IsLoop (ids : List ℕ) : Type 0 where
   pub id : ℕ
   pub is : ids ≡ id ∷ []
@@ -28,7 +29,7 @@ pub record IsLoop (ids : List ℕ) : Type 0 where
 abbrev pub IsOther : List ℕ → List ℕ → Type 0
 IsOther t u = ¬ (t ≡ u)
 
--- pairwise different
+-- Answers of this form that are pairwise different.
 abbrev pub AreLoops : List (List ℕ) → Type 0
 AreLoops [] = ⊤
 AreLoops (t ∷ ts) = IsLoop t × AllByRecursion (IsOther t) ts × AreLoops ts
@@ -51,7 +52,7 @@ loops_extended : (rows : List PlainRow) → ArePlainRows rows → AllByRecursion
 loops_extended [] h a = tt
 loops_extended (r ∷ rows) h a = (record { id = r.id; is = refl; narrow = a.0 }, others_above r.id rows h.0 h.1, loops_extended rows h.1 a.1)
 
--- kept tuples, and sorted ones
+-- Tuples that pass a condition, and sorted ones.
 module _ (P : List ℕ → Type 0) where
   all_if : (b : Bool) (t : List ℕ) (ts : List (List ℕ)) → P t → AllByRecursion P ts → AllByRecursion P (if b then t ∷ ts else ts)
   all_if true t ts p a = (p, a)

@@ -13,7 +13,7 @@ use Rattle.jac_plain.specs.Statements.{around_id}
 pub base_narrow : (n s m : ℕ) → 0 < n → n < 2 ^ 40 → s < 64 → m < 64 → is_narrow (record_id n s m) ≡ true
 base_narrow n s m some room site model = narrow_is (record_id n s m) (omega (arith, some)) (omega (arith, room, site, model))
 
--- an id is its base, or the base around a narrow id
+-- An id is its base, or the base around a narrow id.
 abbrev pub Form : ℕ → ℕ → Type 0
 Form base id = (id ≡ base) ⊎ ((l : ℕ) × (is_narrow l ≡ true) × (id ≡ loop_id l base))
 
@@ -51,7 +51,7 @@ around_narrow l base e = rw e refl
 pub loops_apart : (l k x y : ℕ) → is_narrow x ≡ true → is_narrow y ≡ true → ¬ (l ≡ k) → ¬ (loop_id l x ≡ loop_id k y)
 loops_apart l k x y small less other same = other (loop_id_parts l x k y small less same).0
 
--- what is made is a record of its model and of the request
+-- An id that the request makes is that of a record of its model and of the request.
 one_by : (id m : ℕ) → (is_narrow id || is_wide id) ≡ true → id % 64 ≡ m → is_id_of id m ≡ true
 one_by id m is of = let e : (id % 64 == m) ≡ true = grind (arith, nat_tests, of) in rw (is, e) refl
 
@@ -83,7 +83,7 @@ form_made n s m id some room site model form =
       made = rw number (omega arith);
     }
 
--- the loop's record, where one loop stands around over one binder
+-- The loop's record, if the statement is in exactly one loop over one binder.
 abbrev pub IsAround : Option ℕ → Type 0
 IsAround None = ⊥
 IsAround (Some l) = is_narrow l ≡ true

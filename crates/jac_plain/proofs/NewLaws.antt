@@ -1,4 +1,4 @@
--- What the creates of a request make is new: a statement leaves the records alone that it doesn't make.
+-- The creates of a request make new records. A statement doesn't make a record with any other id.
 use Rattle.std.proofs.Common.{◌≡◌, ◌∙◌, sym, refl, ap, subst, arith, ℕ, ◌<◌, ◌≤◌, ◌^◌, ◌==◌, ◌||◌, not, nat_lt, Bool, true, false, if◌then◌else◌, List, [], ◌∷◌, ◌++◌, length, Option, Some, None}
 use Rattle.std.specs.Prelude.{⊤}
 use Rattle.std.specs.List.{AllByRecursion}
@@ -33,7 +33,7 @@ absent_if : (id : ℕ) (b : Bool) (r : PlainRow) (xs ys : List PlainRow) → (r.
 absent_if id true r xs ys other h g = absent_before id r xs other h
 absent_if id false r xs ys other h g = g
 
--- the first of rows among which no record of the id stands is of another id, and so are the rest
+-- If no row has the id, neither has the first row nor any other.
 absent_parts : (id : ℕ) (r : PlainRow) (rows : List PlainRow) (same : Bool) → (r.id == id) ≡ same → IsAbsent id (r ∷ rows) → (same ≡ false) × IsAbsent id rows
 absent_parts id r rows true e h = let stood : true ≡ false = rw e at h in cc
 absent_parts id r rows false e h = (refl, rw e at h)
@@ -80,7 +80,7 @@ absent-without id target (r ∷ rows) h =
     absent_left id (r.id == target) r rows (without target rows) (absent_rest id r rows h)
     (absent_before id r (without target rows) (other_id id r rows h) (absent-without id target rows (absent_rest id r rows h)))
 
--- the step leaves a record absent
+-- If there is no record with the id before the step, there is none after it.
 abbrev Keeps : ℕ → ℕ → (Run → Run) → Type 0
 Keeps id m step = (r : Run) → IsAbsent id (rows_of r.tables m) → IsAbsent id (rows_of (step r).tables m)
 
@@ -96,7 +96,7 @@ keeps_each id m bs body kept [] r h = h
 keeps_each id m bs body kept (ids ∷ tuples) r h =
     keeps_each id m bs body kept tuples (scoped_run (bound bs ids r.env) (body ids) r) (keeps_scoped id m (bound bs ids r.env) (body ids) (kept ids) r h)
 
--- a record that is made in another model, or has another id
+-- A new record is of another model, or has another id.
 keeps_with : (id m i made : ℕ) (cells : List Value) (tables : List (List PlainRow)) → (i ≡ m → (made == id) ≡ false) → IsAbsent id (rows_of tables m)
     → IsAbsent id (rows_of (tables_with i (plain_row made cells) tables) m)
 keeps_with id m i made cells tables other absent =
@@ -145,13 +145,13 @@ among-append site (x ∷ xs) ys = among_step (x == site) (is_among site xs) (is_
 among_neither : (site : ℕ) (xs ys : List ℕ) → is_among site (xs ++ ys) ≡ false → (is_among site xs ≡ false) × (is_among site ys ≡ false)
 among_neither site xs ys h = or_parts (is_among site xs) (is_among site ys) (sym (among-append site xs ys) ∙ h)
 
--- where a site has ids
+-- The site and the model have ids.
 record IsPlace (k : Setting) (site m : ℕ) : Type 0 where
   fit : IsFit k.models k.number
   site_fits : site < 64
   model_fits : m < 64
 
--- ids of one model and different sites differ, around whatever records
+-- In one model, the ids of different sites differ, around any records.
 other_site : (models : List Entity) (number : ℕ) (here around : Option ℕ) (site m other i : ℕ) → IsFit models number → site < 64 → m < 64 → other < 64 → (other == site) ≡ false → i ≡ m
     → (around_id (is_nested_at models i) here (record_id number other i) == around_id (is_nested_at models m) around (record_id number site m)) ≡ false
 other_site models number here around site m other i fit few less small h e =
@@ -164,7 +164,7 @@ other_site models number here around site m other i fit few less small h e =
     (forms_apart one two made id (base_narrow number other m fit.some fit.room small less) (base_narrow number site m fit.some fit.room few less)
     (bases_apart number site other m h) (form_of (is_nested_at models m) here one) (form_of (is_nested_at models m) around two)))
 
--- a statement without a site leaves the records absent that a create at it would make
+-- If the site isn't in a statement, the statement makes no record with an id of the site.
 mutual
   keeps_one : (k : Setting) (site m : ℕ) (around : Option ℕ) (s : Statement) → IsFit k.models k.number → site < 64 → m < 64 → is_sited s ≡ true → is_among site (sites_in s) ≡ false
       → Keeps (around_id (is_nested_at k.models m) around (record_id k.number site m)) m (leaves k s)
@@ -205,7 +205,7 @@ mutual
       let both = and_parts (is_sited s) (are_sited rest) sited in
       keeps_all k site m around rest fit few less both.1 parts.1 (leaves k s r) (keeps_one k site m around s fit few less both.0 parts.0 r a)
 
--- after two loops, and in one that isn't flat, nothing is created
+-- Nothing is created in two loops, nor in one loop that isn't flat.
 abbrev IsBarren : Loops → Type 0
 IsBarren loops = (nested : Bool) → may_create nested loops ≡ false
 
@@ -254,7 +254,7 @@ mutual
       let parts = and_parts (is_placed models loops s) (are_placed models loops rest) h in
       among_both site (sites_in s) (sites rest) (barren_sites_in models loops s barren parts.0 site) (barren_sites models loops rest barren parts.1 site)
 
--- only a nested model has records of a loop
+-- In a loop only records of nested models are created.
 nested_if : (b flat : Bool) → may_create b (Loops.one flat) ≡ true → b ≡ true
 nested_if true flat h = refl
 nested_if false flat h = cc
@@ -274,7 +274,7 @@ other_loop models number here there site m other i fit few less small narrow als
     (λ same. loops_apart here there one two (base_narrow number other m fit.some fit.room small less) (base_narrow number site m fit.some fit.room few less) apart
     (sym (around_narrow here one narrow) ∙ (same ∙ around_narrow there two also)))))
 
--- the body of a loop around one record leaves the records absent that are to be made around another one
+-- The body of a loop around one record makes no record that is to be made around another one.
 mutual
   loop_keeps_one : (k : Setting) (flat : Bool) (here there site m : ℕ) (s : Statement) → IsFit k.models k.number → site < 64 → m < 64 → is_narrow here ≡ true → is_narrow there ≡ true → ¬ (here ≡ there)
       → k.around ≡ Some here → is_sited s ≡ true → is_placed k.models (Loops.one flat) s ≡ true
@@ -325,7 +325,8 @@ mutual
       loop_keeps_all k flat here there site m rest fit few less narrow also apart is both.1 two.1 (leaves k s r)
       (loop_keeps_one k flat here there site m s fit few less narrow also apart is both.0 two.0 r a)
 
--- the records that a create may be about to make: outside of loops around any record, in one around the loop's
+-- The records that a create may still make: outside of loops those around any record, in a loop
+-- those around the loop's record.
 abbrev IsReady : Loops → Option ℕ → Option ℕ → Type 0
 IsReady Loops.none here around = ⊤
 IsReady (Loops.one flat) here around = around ≡ here
@@ -336,7 +337,7 @@ AreReady loops k some tables =
     (site m : ℕ) (around : Option ℕ) → is_among site some ≡ true → site < 64 → m < 64 → IsReady loops k.around around
     → IsAbsent (around_id (is_nested_at k.models m) around (record_id k.number site m)) (rows_of tables m)
 
--- outside of loops the tables are in order, and their ids wide just in nested models
+-- Outside of loops, the ids in each table rise, and are wide exactly in nested models.
 abbrev IsOrdered : Loops → Setting → List (List PlainRow) → Type 0
 IsOrdered Loops.none k tables = AreKept IsShapedRow shapes_keeping k.models k.number tables
 IsOrdered (Loops.one flat) k tables = ⊤
@@ -357,7 +358,7 @@ not_true : (a : Bool) → not a ≡ true → a ≡ false
 not_true true h = cc
 not_true false h = refl
 
--- sites of two lists that are apart
+-- The sites of two lists are pairwise different.
 record Apart (xs ys : List ℕ) : Type 0 where
   first : are_apart xs ≡ true
   second : are_apart ys ≡ true
@@ -405,7 +406,7 @@ ready_barren : (loops : Loops) (k : Setting) (s : Statements) (tables : List (Li
 ready_barren loops k s tables barren placed site m around is few less ready =
     let wrong : true ≡ false = sym is ∙ barren_sites k.models loops s barren placed site in cc
 
--- the records of one answer's loop
+-- No record is there that is to be made around this record.
 abbrev AreReadyAt : Setting → Option ℕ → List ℕ → List (List PlainRow) → Type 0
 AreReadyAt k around some tables =
     (site m : ℕ) → is_among site some ≡ true → site < 64 → m < 64 → IsAbsent (around_id (is_nested_at k.models m) around (record_id k.number site m)) (rows_of tables m)
@@ -413,7 +414,7 @@ AreReadyAt k around some tables =
 loop_at : (ids : List ℕ) (is : IsLoop ids) → loop_of ids ≡ Some is.id
 loop_at ids is = ap loop_of is.is
 
--- the body at one answer leaves those of the other answers' loops absent
+-- The body for one answer makes no record that is to be made for another answer.
 still_ready : (k : Setting) (flat : Bool) (ids : List ℕ) (body : Statements) → IsFit k.models k.number → are_sited body ≡ true → are_placed k.models (Loops.one flat) body ≡ true → IsLoop ids
     → (some : List ℕ) (ts : List (List ℕ)) → AllByRecursion (IsOther ids) ts → AreLoops ts → (r : Run) → AllByRecursion (λ u. AreReadyAt k (loop_of u) some r.tables) ts
     → AllByRecursion (λ u. AreReadyAt k (loop_of u) some (leaves_all (record k { around = loop_of ids }) body r).tables) ts
@@ -556,7 +557,7 @@ creates_new next k s r some room less few sited apart placed ordered flat absent
     may_run_all next k Loops.none s r less (record { some = some; room = room; few = few }) sited apart placed (λ m. (ordered m, flat m))
     (λ site m around is fits small ready. absent site m around is fits small)
 
--- where all records were made before
+-- If all records were made before, none has an id of this request.
 absent_older : (id number : ℕ) (rows : List PlainRow) → number_of_id id ≡ number → AllByRecursion (λ (r : PlainRow). number_of_id r.id < number) rows → IsAbsent id rows
 absent_older id number [] e a = refl
 absent_older id number (r ∷ rows) e a =

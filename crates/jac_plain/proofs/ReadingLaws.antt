@@ -1,4 +1,4 @@
--- What writes nothing leaves the tables.
+-- Statements that write nothing don't change the tables.
 use Rattle.std.proofs.Common.{◌≡◌, ◌∙◌, refl, ℕ, Bool, true, false, List, [], ◌∷◌}
 use Rattle.std.proofs.lemmas.Bool.{and_parts}
 use Rattle.jac_lang.specs.declared.bindings.Binding.{Binding}
@@ -8,7 +8,7 @@ use Rattle.jac_plain.specs.Expressions.{answers, bound, is_true}
 use Rattle.jac_plain.specs.Reading.{is_reading, are_reading}
 use Rattle.jac_plain.specs.Statements.{Setting, Run, world_of, value_in, scoped_run, choose, for_each, loop_of, leaves, leaves_all}
 
--- the step leaves the tables
+-- The step doesn't change the tables.
 abbrev Keeps : (Run → Run) → Type 0
 Keeps step = (r : Run) → (step r).tables ≡ r.tables
 

@@ -1,4 +1,4 @@
--- Rows of one table that stay in order, and of which something holds.
+-- Rows of one table stay in order, and keep a property.
 use Rattle.std.proofs.Common.{◌≡◌, refl, subst, arith, ap, zero, suc, ℕ, ◌+◌, ◌<◌, ◌==◌, nat_lt, Bool, true, false, if◌then◌else◌, List, [], ◌∷◌, ◌++◌}
 use Rattle.std.specs.Prelude.{slice_set}
 use Rattle.std.specs.List.{AllByRecursion}
@@ -20,7 +20,7 @@ above_if : (k : ℕ) (b : Bool) (r : PlainRow) (rows : List PlainRow) → k < r.
 above_if k true r rows h a = h
 above_if k false r rows h a = a
 
--- rows that are picked from a table
+-- Rows that are selected from a table.
 above-with_ids : (k : ℕ) (test : ℕ → Bool) (rows : List PlainRow) → StartsAboveBy id_of k rows → ArePlainRows rows → StartsAboveBy id_of k (with_ids test rows)
 above-with_ids k test [] a h = tt
 above-with_ids k test (r ∷ rows) a h = above_if k (test r.id) r (with_ids test rows) a (above-with_ids k test rows (above_too k r.id rows a h.0) h.1)
@@ -37,7 +37,7 @@ passing_above : (k : ℕ) (b : Bool) (r : PlainRow) (rows : List PlainRow) → n
 passing_above k true r rows e a = grind (arith, e)
 passing_above k false r rows e a = a
 
--- those of greater ids
+-- The rows with greater ids.
 greater : (k : ℕ) (rows : List PlainRow) → StartsAboveBy id_of k (with_ids (λ id. nat_lt k id) rows)
 greater k [] = tt
 greater k (r ∷ rows) = passing_above k (nat_lt k r.id) r (with_ids (λ id. nat_lt k id) rows) refl (greater k rows)
@@ -57,7 +57,7 @@ joined_if : (k : ℕ) (b : Bool) (r row : PlainRow) (rows rest : List PlainRow) 
 joined_if k true r row rows rest e a h = (a (grind (arith, e)), h)
 joined_if k false r row rows rest e a h = h
 
--- those of lesser ids, before a row
+-- The rows with lesser ids, followed by a row.
 rising-lesser : (row : PlainRow) (rows rest : List PlainRow) → ArePlainRows rows → ArePlainRows (row ∷ rest) → ArePlainRows (with_ids (λ id. nat_lt id row.id) rows ++ row ∷ rest)
 rising-lesser row [] rest h g = g
 rising-lesser row (r ∷ rows) rest h g =
@@ -102,7 +102,7 @@ pub rising-without : (id : ℕ) (rows : List PlainRow) → ArePlainRows rows →
 rising-without id [] h = tt
 rising-without id (r ∷ rows) h = rising_left (r.id == id) r rows (without id rows) h.1 (above-without r.id id rows h.0 h.1, rising-without id rows h.1)
 
--- a property of rows
+-- A property of rows.
 module _ (P : PlainRow → Type 0) where
   all_if : (b : Bool) (r : PlainRow) (rows : List PlainRow) → P r → AllByRecursion P rows → AllByRecursion P (if b then r ∷ rows else rows)
   all_if true r rows p a = (p, a)
@@ -139,7 +139,7 @@ module _ (P : PlainRow → Type 0) where
   all-without id [] a = tt
   all-without id (r ∷ rows) a = all_left (r.id == id) r rows (without id rows) a.1 (a.0, all-without id rows a.1)
 
--- tables of which one is set
+-- Tables after one of them is set.
 module _ (IsRow : ℕ → PlainRow → Type 0) where
   abbrev pub AreRows : ℕ → List PlainRow → Type 0
   AreRows m rows = ArePlainRows rows × AllByRecursion (IsRow m) rows
@@ -159,7 +159,7 @@ module _ (IsRow : ℕ → PlainRow → Type 0) where
       (a.0, subst (λ k. AllByRecursion (IsRow k) t) here a.1)
   table_of from (suc i) m (t ∷ ts) e a = table_of (from + 1) i m ts (omega (arith, e)) a.2
 
--- the rows of a model, once one table is set
+-- The rows of a model after one table is set.
 pub set_rows : (P : List PlainRow → Type 0) (tables : List (List PlainRow)) (i m : ℕ) (rows : List PlainRow) → (i ≡ m → P rows) → P (rows_of tables m) → P (rows_of (slice_set tables i rows) m)
 set_rows P [] i m rows set kept = kept
 set_rows P (t ∷ ts) zero zero rows set kept = set refl
@@ -167,7 +167,7 @@ set_rows P (t ∷ ts) zero (suc m) rows set kept = kept
 set_rows P (t ∷ ts) (suc i) zero rows set kept = kept
 set_rows P (t ∷ ts) (suc i) (suc m) rows set kept = set_rows P ts i m rows (λ e. set (ap suc e)) kept
 
--- tables by what holds of each of them
+-- Tables with a property that each of them has.
 module _ (IsRow : ℕ → PlainRow → Type 0) where
   pub tables_by : (from : ℕ) (tables : List (List PlainRow)) → ((i : ℕ) → AreRows IsRow (from + i) (rows_of tables i)) → AreTablesOf ArePlainRows IsRow from tables
   tables_by from [] h = tt

@@ -1,4 +1,4 @@
--- Where no model has a group, nothing depends on the labels that are shown.
+-- If no model has a group, nothing depends on the labels that are shown.
 use Rattle.std.proofs.Common.{◌≡◌, ◌∙◌, sym, refl, ap, ℕ, ◌==◌, Bool, true, false, if◌then◌else◌, List, [], ◌∷◌, ◌++◌, length, Option, Some, None}
 use Rattle.std.specs.Prelude.{slice_get, slice_set}
 use Rattle.jac_value.specs.declared.value.Value.{Value}
@@ -20,7 +20,7 @@ use Rattle.jac_plain.proofs.GroupLaws.{groups_none, kept_groupless, shielded_gro
 abbrev under : (ℕ → Bool) → Setting → Setting
 under v k = record k { shown = v }
 
--- two steps leave the same
+-- The two steps have the same result.
 abbrev Alike : (Run → Run) → (Run → Run) → Type 0
 Alike f g = (r : Run) → f r ≡ g r
 

@@ -1,4 +1,4 @@
--- What the creates of a run ask of it: each makes a record that is new.
+-- The condition that each `create` of a run makes a new record.
 use Rattle.std.specs.Prelude.{◌≡◌, ℕ, ◌<◌, ◌++◌, ◌==◌, ◌&&◌, ◌||◌, not, Bool, true, false, ⊤, List, [], ◌∷◌, Option, Some, None}
 use Rattle.jac_value.specs.declared.value.Value.TheVariants as value
 use Rattle.std.specs.List.{AllByRecursion}
@@ -13,13 +13,13 @@ use Rattle.jac_plain.specs.Expressions.{answers, bound, binding, is_true, stands
 use Rattle.jac_plain.specs.Statements.{Setting, Run, world_of, value_in, scoped_run, loop_of, around_id, id_made, is_kept, with_made, plain_row, created_cells, leaves, leaves_all}
 use Rattle.jac_plain.specs.World.{record_with}
 
--- a record of this request: the request comes before the next number, and no record of the id
--- stands
+-- The id is that of a new record: the number of the request is less than the next number, and no
+-- record has this id.
 pub record IsNew (next number id : ℕ) (rows : List PlainRow) : Type 0 where
   pub numbered : number < next
   pub absent : stands (record_with id rows) ≡ false
 
--- with these bindings
+-- The run with these bindings.
 abbrev pub with_env : List Binding → Run → Run
 with_env env r = record r { env = env }
 
@@ -27,14 +27,14 @@ abbrev pub MayChoose : Bool → (Run → Type 0) → (Run → Type 0) → Run �
 MayChoose true First Second r = First r
 MayChoose false First Second r = Second r
 
--- for each tuple, in the run that the ones before it leave
+-- The condition holds for each tuple, in the run after the tuples before it.
 abbrev pub MayEach : List Binder → (List ℕ → Run → Run) → (List ℕ → Run → Type 0) → List (List ℕ)
     → Run → Type 0
 MayEach bs body May [] r = ⊤
 MayEach bs body May (ids ∷ tuples) r = May ids (with_env (bound bs ids r.env) r)
     × MayEach bs body May tuples (scoped_run (bound bs ids r.env) (body ids) r)
 
--- the record is new, and then what the body asks with its name bound
+-- The record is new, and the condition of the body holds with the name bound to it.
 abbrev pub MayCreate : ℕ → Setting → List ℕ → Option ℕ → ℕ → List Assigned → (Run → Type 0) → Run
     → Type 0
 MayCreate next k name None site cells May r = ⊤
@@ -46,7 +46,7 @@ MayCreate next k name (Some m) site cells May r =
     × May (with_env (made.env ++ binding name (value.Ref (Some id)) ∷ []) made)
 
 abbrev mutual
-  -- each create that the statement comes to makes a record that is new
+  -- Each create that the statement runs makes a new record.
   pub MayRun : ℕ → Setting → Statement → Run → Type 0
   MayRun next k (Statement.put e) r = ⊤
   MayRun next k (Statement.escape e) r = ⊤
@@ -77,24 +77,23 @@ abbrev pub is_among : ℕ → List ℕ → Bool
 is_among site [] = false
 is_among site (x ∷ xs) = (x == site) || is_among site xs
 
--- pairwise different
+-- Whether the numbers are pairwise different.
 abbrev pub are_apart : List ℕ → Bool
 are_apart [] = true
 are_apart (x ∷ xs) = not (is_among x xs) && are_apart xs
 
--- no record of this id stands
+-- No record has this id.
 abbrev pub IsAbsent : ℕ → List PlainRow → Type 0
 IsAbsent id rows = stands (record_with id rows) ≡ false
 
--- no record that the request of this number makes at one of the sites stands, around whatever
--- record
+-- No record has an id that a request of this number makes at one of the sites, around any record.
 abbrev pub AreAbsent : List Entity → ℕ → List ℕ → List (List PlainRow) → Type 0
 AreAbsent models number sites tables =
     (site m : ℕ) (around : Option ℕ) → is_among site sites ≡ true → site < 64 → m < 64
     → IsAbsent (around_id (is_nested_at models m) around (record_id number site m))
     (rows_of tables m)
 
--- each record was made by a request before this number
+-- Each record was made by a request before this number.
 abbrev pub AreMadeBefore : ℕ → List (List PlainRow) → Type 0
 AreMadeBefore number tables = (m : ℕ) → AllByRecursion (λ (r : PlainRow). number_of_id r.id
     < number) (rows_of tables m)

@@ -21,7 +21,7 @@ shapes_of_models models (m ∷ rest) = record {
   nested = m.nested;
 } ∷ shapes_of_models models rest
 
--- the kinds of the cells of each model, and whether it is nested
+-- For each model, the kinds of its cells, and whether it is nested.
 abbrev pub shapes_of : Application → List ModelShape
 shapes_of app = shapes_of_models app.models app.models
 
@@ -29,13 +29,13 @@ abbrev pub is_none : List FieldGroup → Bool
 is_none [] = true
 is_none (g ∷ gs) = false
 
--- no field is guarded
+-- Whether no model has a group, so that no field is guarded.
 abbrev pub are_without_groups : List Entity → Bool
 are_without_groups [] = true
 are_without_groups (m ∷ models) = is_none m.groups && are_without_groups models
 
 abbrev mutual
-  -- each create stands at one of 64 sites
+  -- Whether each create has one of the sites 0 to 63.
   pub is_sited : Statement → Bool
   is_sited (Statement.bind x e body) = are_sited body
   is_sited (Statement.branch c first second) = are_sited first && are_sited second
@@ -48,7 +48,7 @@ abbrev mutual
   are_sited Statements.none = true
   are_sited (Statements.more s rest) = is_sited s && are_sited rest
 
--- the id of a record of a nested model is wide, that of any other record narrow
+-- Whether the id is wide if the model is nested, and narrow if it isn't.
 abbrev pub is_shaped : Bool → ℕ → Bool
 is_shaped true id = is_wide id
 is_shaped false id = is_narrow id
@@ -58,6 +58,6 @@ AreFlat models tables = (m : ℕ)
     → AllByRecursion (λ (r : PlainRow). is_shaped (is_nested_at models m) r.id ≡ true)
     (rows_of tables m)
 
--- each table has each id once, in rising order
+-- The ids in each table rise, so that none occurs twice.
 abbrev pub HaveRisingIds : List (List PlainRow) → Type 0
 HaveRisingIds tables = (m : ℕ) → ArePlainRows (rows_of tables m)

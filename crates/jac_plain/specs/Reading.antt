@@ -3,7 +3,7 @@ use Rattle.std.specs.Prelude.{Bool, true, false, ◌&&◌}
 use Rattle.jac_lang.specs.Syntax.{Statement, Statements}
 
 abbrev mutual
-  -- no create, update or delete stands in the statement
+  -- Whether the statement contains no create, update or delete.
   pub is_reading : Statement → Bool
   is_reading (Statement.put e) = true
   is_reading (Statement.escape e) = true

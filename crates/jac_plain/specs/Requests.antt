@@ -12,7 +12,7 @@ use Rattle.jac_plain.specs.declared.page.Page.{Page}
 use Rattle.jac_plain.specs.declared.page.Piece.{Piece}
 use Rattle.jac_plain.specs.declared.page.Piece.TheVariants as piece
 
--- a location, with each byte that isn't visible ASCII escaped
+-- A location, after each byte that isn't visible ASCII is escaped.
 abbrev pub location : List ℕ → List ℕ
 location bytes = flat_map (λ b. if nat_le 0x21 b && nat_le b 0x7E then b ∷ []
     else percent_encode_byte b) bytes
@@ -29,7 +29,7 @@ is_missing (piece.Added bytes ∷ pieces) = is_missing pieces
 is_missing (piece.Missing ∷ pieces) = true
 is_missing (piece.Redirect to ∷ pieces) = is_missing pieces
 
--- the last redirect, or this one where there is none
+-- The last redirect. If there is none, the given one.
 abbrev pub redirect_of : Option (List ℕ) → List Piece → Option (List ℕ)
 redirect_of to [] = to
 redirect_of to (piece.Added bytes ∷ pieces) = redirect_of to pieces
@@ -40,18 +40,18 @@ abbrev pub found_page : Option (List ℕ) → List ℕ → Page
 found_page None body = record { status = 200; location = None; body = body }
 found_page (Some to) body = record { status = 303; location = Some to; body = body }
 
--- the page that leads here, where it isn't missing
+-- The page with this redirect and body. It is a 404 page if `missing` is true.
 abbrev pub page_by : Bool → Option (List ℕ) → List ℕ → Page
 page_by missing to body = if missing then record { status = 404; location = None; body = body }
     else found_page to body
 
--- a page that ran `missing` has no location
+-- The page of the pieces. It has no location if `missing` ran.
 abbrev pub page_of : List Piece → Page
 page_of pieces =
     if is_missing pieces then record { status = 404; location = None; body = body_of pieces }
     else found_page (redirect_of None pieces) (body_of pieces)
 
--- a request: the place of its view, its parameters and who asks
+-- A request: the place of its view, its bindings, and the viewer.
 pub record Visit : Type 0 where
   pub view : ℕ
   pub env : List Binding
@@ -74,13 +74,13 @@ setting_of w app t visit = record {
   around = None;
 }
 
--- what the view's statements leave of a state, under the labels that are shown
+-- The run of the view's statements on a state, under the labels that are shown.
 abbrev pub run_of : (ℕ → Bool) → Application → PlainState → Visit → Run
 run_of w app t visit =
     leaves_all (setting_of w app t visit) (body_in (slice_get app.views visit.view))
     (record { tables = t.tables; env = visit.env; pieces = [] })
 
--- the page of a request on a state
+-- The page of a request on a state.
 abbrev pub page : (ℕ → Bool) → Application → PlainState → Visit → Page
 page w app t visit = page_of (run_of w app t visit).pieces
 
@@ -91,10 +91,11 @@ after_by verbs.Post w app t visit = record {
   number = t.number + 1;
 }
 
--- the state after a request that has a page: a GET leaves it, an accepted POST takes its number
+-- The state after a request that has a page. A GET doesn't change the state. A POST leaves the
+-- tables of the run, and the number increases by 1.
 abbrev pub after : (ℕ → Bool) → Application → PlainState → Visit → PlainState
 after w app t visit = after_by (method_in (slice_get app.views visit.view)) w app t visit
 
--- a state for each assignment
+-- A state for each assignment.
 abbrev pub Worlds : Type 0
 Worlds = (ℕ → Bool) → PlainState

@@ -9,7 +9,7 @@ use Rattle.jac_plain.specs.Requests.{Worlds}
 use Rattle.jac_plain.specs.Statements.{Setting, loop_of}
 use Rattle.jac_plain.specs.World.{World}
 
--- what an expression is read in
+-- The world in which an expression is evaluated under an assignment.
 abbrev pub world_at : App → Ctx → State → (ℕ → Bool) → World
 world_at app ctx s w =
     record {
@@ -19,7 +19,7 @@ world_at app ctx s w =
       tables = (project_at w s).tables;
     }
 
--- what stays the same through a run of statements
+-- What stays the same while statements run.
 abbrev pub setting_at : App → Ctx → (ℕ → Bool) → Setting
 setting_at app ctx w = record {
   models = (application_of app).models;
@@ -29,10 +29,10 @@ setting_at app ctx w = record {
   around = ctx.around;
 }
 
--- the same for the body of a loop, at one of its answers
+-- The same for the body of a loop, for one of the query's answers.
 abbrev pub setting_around : App → Ctx → List ℕ → (ℕ → Bool) → Setting
 setting_around app ctx ids w = record (setting_at app ctx w) { around = loop_of ids }
 
--- the worlds of a faceted state
+-- The worlds of a faceted state.
 abbrev pub worlds_of : State → Worlds
 worlds_of s w = project_at w s

@@ -16,8 +16,9 @@ use Rattle.jac_plain.specs.declared.page.Piece.TheVariants as piece
 use Rattle.jac_plain.specs.Expressions.{mean, answers, bound, binding, bytes_of, is_true}
 pub use Rattle.jac_plain.specs.Records.{drafted_cells, default_cells, plain_row, shielded_cells, is_hidden_by, every_field, is_set, changed_rows, without, tables_with, tables_after}
 
--- what stays the same through a run: the models, the labels that are shown, which only a create and
--- an update look at, the viewer, the number of the request, and the record of the loop
+-- What stays the same while statements run: the models; the labels that are shown, which only a
+-- create and an update use; the viewer; the number of the request; and the record of the loop
+-- around the statements.
 pub record Setting : Type 0 where
   pub models : List Entity
   pub shown : ℕ → Bool
@@ -25,7 +26,7 @@ pub record Setting : Type 0 where
   pub number : ℕ
   pub around : Option ℕ
 
--- what a run changes
+-- What a run changes.
 pub record Run : Type 0 where
   pub tables : List (List PlainRow)
   pub env : List Binding
@@ -40,24 +41,24 @@ value_in k e r = mean (world_of k r) e r.env
 abbrev pub with_piece : Piece → Run → Run
 with_piece p r = record r { pieces = r.pieces ++ p ∷ [] }
 
--- the first bindings of a run
+-- The run with only its first n bindings.
 abbrev pub cut_to : ℕ → Run → Run
 cut_to n r = record r { env = take n r.env }
 
--- the body with these bindings; those beyond the run's own are gone after it
+-- The body with these bindings. After it, only as many bindings are left as before.
 abbrev pub scoped_run : List Binding → (Run → Run) → Run → Run
 scoped_run env body r = cut_to (length r.env) (body (record r { env = env }))
 
 abbrev pub with_binding : List ℕ → Value → (Run → Run) → Run → Run
 with_binding name v body r = scoped_run (r.env ++ binding name v ∷ []) body r
 
--- a binding has the name
+-- Whether a binding has the name.
 abbrev pub binds : List ℕ → List Binding → Bool
 binds name [] = false
 binds name (b ∷ bs) = if same_text b.name name then true else binds name bs
 
--- the innermost binding of the name, which stands last, has this value; nothing changes where there
--- is none
+-- Gives the value to the innermost binding of this name, which is the last one. If there is none,
+-- the bindings are the same.
 abbrev pub with_value : List ℕ → Value → List Binding → List Binding
 with_value name v [] = []
 with_value name v (b ∷ bs) =
@@ -68,35 +69,36 @@ abbrev pub choose : Bool → (Run → Run) → (Run → Run) → Run → Run
 choose true first second r = first r
 choose false first second r = second r
 
--- the body for each tuple
+-- The body for each tuple.
 abbrev pub for_each : List Binder → (List ℕ → Run → Run) → List (List ℕ) → Run → Run
 for_each bs body [] r = r
 for_each bs body (ids ∷ tuples) r = for_each bs body tuples (scoped_run (bound bs ids r.env)
     (body ids)
     r)
 
--- the record of a loop's answer: that of its one binder
+-- The record of a loop's answer, if the loop has exactly one binder.
 abbrev pub loop_of : List ℕ → Option ℕ
 loop_of [] = None
 loop_of (id ∷ []) = Some id
 loop_of (id ∷ (other ∷ ids)) = None
 
--- the id of a nested model's record is made around the loop's record, where that one was made
--- outside of loops
+-- The id of a new record. If its model is nested and the loop's record was made outside of loops,
+-- the id is made around that of the loop's record.
 abbrev pub around_id : Bool → Option ℕ → ℕ → ℕ
 around_id false around base = base
 around_id true None base = base
 around_id true (Some l) base = if is_narrow l then loop_id l base else base
 
--- the id of the record that the create at this site makes
+-- The id of the record that the create at this site makes.
 abbrev pub id_made : Setting → ℕ → ℕ → ℕ
 id_made k m site = around_id (is_nested_at k.models m) k.around (record_id k.number site m)
 
--- the model has no group that hides its records, or the label of the record's is shown
+-- Whether a new record is put into the tables: its model has no group that hides records, or the
+-- record's label of this group is shown.
 abbrev pub is_kept : List Entity → (ℕ → Bool) → ℕ → ℕ → Bool
 is_kept models shown m id = not (is_hidden_by shown id (hiding_place (groups_at models m)))
 
--- the tables with a new record of the model, where it is kept
+-- The tables with a new record of the model, if it is kept.
 abbrev pub tables_made : Bool → ℕ → PlainRow → List (List PlainRow) → List (List PlainRow)
 tables_made true m row tables = tables_with m row tables
 tables_made false m row tables = tables
@@ -104,7 +106,7 @@ tables_made false m row tables = tables
 abbrev pub with_made : Bool → ℕ → PlainRow → Run → Run
 with_made kept m row r = record r { tables = tables_made kept m row r.tables }
 
--- the cells of a new record, as they are stored
+-- The cells of a new record, as they are stored.
 abbrev pub created_cells : Setting → ℕ → ℕ → List Assigned → Run → List Value
 created_cells k m id cells r =
     let fields = fields_at k.models m in
@@ -112,8 +114,8 @@ created_cells k m id cells r =
     (λ e. value_in k e r) cells
     (default_cells k.models fields))
 
--- a new record of the model at this place, and then the body with its name bound; nothing where no
--- model has the name
+-- Makes a new record, and runs the body with the name bound to it. If the model doesn't exist,
+-- nothing is done.
 abbrev pub create_run : Setting → List ℕ → Option ℕ → ℕ → List Assigned → (Run → Run) → Run → Run
 create_run k name None site cells body r = r
 create_run k name (Some m) site cells body r =
@@ -121,7 +123,7 @@ create_run k name (Some m) site cells body r =
     with_binding name (value.Ref (Some id)) body (with_made (is_kept k.models k.shown m id) m
     (plain_row id (created_cells k m id cells r)) r)
 
--- the cells of a record that stands, as they are stored by an update
+-- The cells of an existing record, as an update stores them.
 abbrev pub updated_cells : Setting → ℕ → ℕ → List Assigned → Run → List Value → List Value
 updated_cells k m id cells r old =
     let fields = fields_at k.models m in
@@ -141,7 +143,7 @@ delete_run None target r = r
 delete_run (Some m) target r = record r { tables = tables_after m target without r.tables }
 
 abbrev mutual
-  -- what a statement leaves
+  -- The run after a statement.
   pub leaves : Setting → Statement → Run → Run
   leaves k (Statement.put e) r = with_piece (piece.Added (value_text (value_in k e r))) r
   leaves k (Statement.escape e) r = with_piece (piece.Added (html (value_text (value_in k e r)))) r
@@ -162,7 +164,7 @@ abbrev mutual
   leaves k (Statement.template t) r = r
   leaves k (Statement.block body) r = leaves_all k body r
 
-  -- what statements leave, one after another
+  -- The run after statements, one after another.
   pub leaves_all : Setting → Statements → Run → Run
   leaves_all k Statements.none r = r
   leaves_all k (Statements.more s rest) r = leaves_all k rest (leaves k s r)

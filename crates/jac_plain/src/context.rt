@@ -1,15 +1,15 @@
 use jac_value::Id;
 
-/// What an expression is read with, beside a state and bindings.
+/// The context of an expression, besides the state and the bindings.
 #[derive(Clone, Copy)]
 pub struct Ctx {
-    /// The record of who asks.
+    /// The record of the viewer.
     pub viewer: Option<Id>,
-    /// The record whose policy or public value is asked.
+    /// The record that the policy or the public value is about.
     pub this: Option<Id>,
     /// The number of the request.
     pub number: u64,
-    /// The record of the innermost `for` around a statement, if that has one binder. A record of a
-    /// nested model that is made there takes its id from it.
+    /// The record of the innermost `for` around a statement, if it has exactly one binder. The id
+    /// of a record of a nested model that is created there is made from it.
     pub around: Option<Id>,
 }

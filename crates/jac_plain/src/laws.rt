@@ -11,21 +11,22 @@ ghost use Rattle.jac_rows.specs.Good.{IsGoodPlain};
 ghost use Rattle.jac_rows.specs.declared.plain.PlainRow.{PlainRow};
 ghost use Rattle.jac_rows.specs.declared.plain.PlainState.{PlainState};
 
-/// A law: statements without a create, an update or a delete leave the tables.
+/// A law: statements without a create, an update or a delete don't change the tables.
 pub fn reading_leaves_tables()
     ensures { (k : Setting) (s : Statements) (r : Run) → are_reading s ≡ true
         → (leaves_all k s r).tables ≡ r.tables }
 {}
 
-/// A law: where no field is guarded, a run is the same under all assignments.
+/// A law: if no field is guarded, a run is the same under all assignments.
 pub fn same_run_without_groups()
     ensures { (app : Application) (t : PlainState) (visit : Visit) (w v : ℕ → Bool)
         → are_without_groups app.models ≡ true → run_of w app t visit ≡ run_of v app t visit }
 {}
 
-/// A law: a request leaves a good state good, where its number has ids, there are at most 64
-/// models, and the creates of its view stand at sites below 64, those of nested models in one loop
-/// over one binder.
+/// A law: a good state is good after a request. The conditions: the next number is below 2^40.
+/// There are at most 64 models. The creates of the view have sites below 64. Records of nested
+/// models are created in exactly one loop, over one binder of a model that isn't nested, other
+/// records outside of loops.
 pub fn good_after_request()
     ensures { (w : ℕ → Bool) (app : Application) (t : PlainState) (visit : Visit)
         → IsGoodPlain (shapes_of app) t → t.number < 2 ^ 40 → length app.models ≤ 64
@@ -34,8 +35,8 @@ pub fn good_after_request()
         → IsGoodPlain (shapes_of app) (after w app t visit) }
 {}
 
-/// A law: a request leaves a state whose ids are wide just in nested models such a state, under the
-/// same premises, whatever the kinds of its cells.
+/// A law: under the same conditions, whatever the kinds of the cells, ids that are wide exactly in
+/// nested models are so after a request. The ids in each table must rise.
 pub fn flat_after_request()
     ensures { (w : ℕ → Bool) (app : Application) (t : PlainState) (visit : Visit) → 0 < t.number
         → t.number < 2 ^ 40 → length app.models ≤ 64
@@ -45,10 +46,11 @@ pub fn flat_after_request()
         → AreFlat app.models (after w app t visit).tables }
 {}
 
-/// A law: what statements create is new where their sites are pairwise different and below 64,
-/// nested models are created in one loop over one binder and no other one in a loop, the tables are
-/// in order and their ids wide just in nested models, and no record that this request makes at one
-/// of the sites stands where the run begins.
+/// A law: statements create new records only. The conditions: their sites are pairwise different
+/// and below 64. Records of nested models are created in exactly one loop, over one binder of a
+/// model that isn't nested, other records outside of loops. In each table the ids rise, and they
+/// are wide exactly in nested models. Before the run, no record has an id that this request makes
+/// at one of the sites.
 pub fn creates_are_new()
     ensures { (next : ℕ) (k : Setting) (s : Statements) (r : Run) → 0 < k.number → k.number < 2 ^ 40
         → k.number < next → length k.models ≤ 64 → are_sited s ≡ true → are_apart (sites s) ≡ true
@@ -57,7 +59,8 @@ pub fn creates_are_new()
         → AreAbsent k.models k.number (sites s) r.tables → MayRunAll next k s r }
 {}
 
-/// A law: no record that a request makes stands where all that stand were made before it.
+/// A law: if all records were made by requests before this one, no record has an id that this
+/// request makes.
 pub fn made_before_are_absent()
     ensures { (models : List Entity) (number : ℕ) (sites : List ℕ) (tables : List (List PlainRow))
         → 0 < number → number < 2 ^ 40 → AreMadeBefore number tables

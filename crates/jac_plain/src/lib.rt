@@ -1,7 +1,5 @@
-//! The ordinary interpreter: what an application means in one world of plain lists, under the
-//! labels that are shown. It is definitions and laws, of which the program runs none; the types
-//! that they share with it; and what both ways of running it take from here: operations on values,
-//! pieces and pages.
+//! The ordinary interpreter: what expressions, statements, policies and pages mean in one world.
+//! Only the operations on values, pieces and pages are run. Both interpreters use them.
 #![tactic(auto)]
 
 mod context;

@@ -6,7 +6,7 @@ ghost use Rattle.jac_plain.specs.Expressions.{int_of, is_true, less_of, two};
 use jac_lang::Op;
 use jac_value::Value;
 
-/// The value of an operation of two operands.
+/// The value of an operation on two operands.
 pub fn two_values(op: Op, first: &Value, second: &Value) -> Value
     ensures { result ≡ two op first.now second.now }
 {
@@ -21,8 +21,8 @@ pub fn two_values(op: Op, first: &Value, second: &Value) -> Value
     }
 }
 
-/// The result where the first operand decides it: a false one of `and`, a true one of `or`. The
-/// other operand is then not asked for, and what it would consult isn't.
+/// The result, if the first operand decides it: `and` with a false one, `or` with a true one. The
+/// second operand isn't evaluated then.
 pub fn decided(op: Op, first: &Value) -> Option<Value>
     ensures { IfSome result (λ v. (second : Seen) → v ≡ two op first.now second) }
 {
@@ -42,7 +42,7 @@ fn int_of(value: &Value) -> i64
     }
 }
 
-/// Whether the value is the truth value true.
+/// Whether the value is `true`.
 pub fn is_true(value: &Value) -> bool
     ensures { result ≡ is_true value.now }
 {

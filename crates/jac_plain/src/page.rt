@@ -1,6 +1,6 @@
 use jac_value::{Bytes, Txt};
 
-/// A piece of a page, as a statement leaves it.
+/// A piece of a page, made by a statement.
 #[derive(Drop)]
 pub enum Piece {
     Added(Bytes),
@@ -8,7 +8,8 @@ pub enum Piece {
     Redirect(Txt),
 }
 
-/// What a reader gets. Only a status of 303 has a location, each byte of which is visible ASCII.
+/// The page that a viewer gets. Only a page of status 303 has a location. Each byte of the location
+/// is visible ASCII.
 #[derive(Drop)]
 pub struct Page {
     pub status: u16,

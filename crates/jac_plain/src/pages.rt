@@ -8,7 +8,7 @@ use jac_value::{Bytes, Memory, Txt};
 use percent_encoding::{AsciiSet, CONTROLS, ascii_set, percent_encode};
 use std::alloc::Global;
 
-// What a location escapes beside what isn't ASCII.
+// The ASCII characters that are escaped in a location.
 const ESCAPED: AsciiSet = ascii_set!(CONTROLS.add(b' '));
 
 /// The page of the pieces.
@@ -20,7 +20,8 @@ pub fn page_of(alloc: Global, pieces: &[Piece]) -> Result<Page, Memory>
     Ok(page)
 }
 
-/// The page of a run that leaves these bytes: it may say that it isn't there, or lead elsewhere.
+/// The page with this body. Its status is 404 if `is_missing`. Otherwise it is 303 if there is a
+/// redirect, and 200 if there is none.
 pub fn make_page(
     alloc: Global,
     is_missing: bool,
@@ -108,7 +109,7 @@ fn last_redirect(pieces: &[Piece]) -> Option<&Txt>
     last
 }
 
-// The redirect of this piece, or the one before.
+// The redirect of this piece, or the last one before it.
 fn redirect_after<'p>(last: Option<&'p Txt>, piece: &'p Piece) -> Option<&'p Txt>
     ensures { option_map location (option_copied result) ≡ redirect_of
         (option_map location (option_copied last.entry)) (piece.now ∷ []) }

@@ -9,17 +9,17 @@ use crate::Piece;
 use jac_value::{Bytes, Memory, Txt, Value, add_html, text_of};
 use std::alloc::Global;
 
-/// How a value comes onto a page.
+/// The form in which a value is added to a page.
 #[derive(Clone, Copy)]
 pub enum Form {
     Text,
-    /// As HTML shows it.
+    /// Escaped for HTML.
     Escaped,
-    /// As what the page leads to.
+    /// The location that the page redirects to.
     Location,
 }
 
-/// What the value adds to a page.
+/// The piece that the value adds to a page.
 pub fn make_piece(alloc: Global, value: &Value, form: Form) -> Result<Piece, Memory>
     ensures { IfOk result (λ p. p ≡ piece_of form value.now) }
 {
@@ -54,7 +54,7 @@ pub fn add_text(alloc: Global, body: &mut Vec<u8>, value: &Value) -> Result<(), 
     Ok(())
 }
 
-/// Adds the text of the value, as HTML shows it, to the bytes of a page.
+/// Adds the text of the value, escaped for HTML, to the bytes of a page.
 pub fn add_escaped(alloc: Global, body: &mut Vec<u8>, value: &Value) -> Result<(), Memory>
     ensures { OnOk result (body.new.items ≡ body.old.items ++ html (value_text value.now)) }
 {
@@ -67,7 +67,7 @@ pub fn add_escaped(alloc: Global, body: &mut Vec<u8>, value: &Value) -> Result<(
     }
 }
 
-// The text, or none for a value of another kind.
+// The text. A value of another kind gives an empty one.
 fn location_of(alloc: Global, value: &Value) -> Result<Txt, Memory>
     ensures { IfOk result (λ t. t ≡ bytes_of value.now) }
 {
