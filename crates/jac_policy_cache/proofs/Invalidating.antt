@@ -14,7 +14,7 @@ use Rattle.jac_policy_cache.specs.Memo.{given_of, depends, depends_in, is_asked,
 use Rattle.jac_policy_cache.specs.Affected.{is_for, is_in_group, affects}
 use Rattle.jac_policy_cache.specs.ViewerCache.{Invalidates, is_marked}
 
--- of a label that wasn't asked nothing is recalled, and it depends on none
+-- A label without cached results recalls nothing and depends on no label.
 not_asked : (given : Option LabelMemo) (w : ℕ → Bool) → is_some given ≡ false → recall_in given w ≡ None
 not_asked None w h = refl
 not_asked (Some given) w h = absurd cc
@@ -48,7 +48,8 @@ marked_dependent answers (x ∷ ls) j k s h =
     marked_if true a b c d t here later = or_left (a || b) d (or_right a b (here refl))
     marked_if false a b c d t here later = or_right (a || b) d (later t)
 
--- what is forgotten and what is stale, by the labels that are affected and were asked
+-- What is forgotten and what is stale, by the affected labels that are named or have cached
+-- results.
 pub invalidates_by : (invalidation : Invalidation) (viewer : Option ℕ) (old new : ViewerCache) (affected : List ℕ) → new.labels ≡ old.labels →
     ((k : ℕ) → shown_by affected k ≡ (shown_by invalidation.labels k || (affects invalidation viewer k && is_asked old.answers k))) →
     ((k : ℕ) → shown_by new.stale k ≡ (shown_by old.stale k || is_marked old.answers affected k)) →

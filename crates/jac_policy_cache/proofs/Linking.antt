@@ -7,7 +7,7 @@ use Rattle.jac_policy_cache.specs.declared.policy_memo.PolicyMemo.{PolicyMemo}
 use Rattle.jac_policy_cache.specs.Linked.{AreLinked, IsDoneBefore, is_done}
 use Rattle.jac_policy_cache.specs.Memo.{depends, watches}
 
--- the labels are among all, and what is next to one that is done is there
+-- The labels are in `all`, and so are the labels that are directly linked to one that is done.
 pub record Linking (answers : PolicyMemo) (labels all left : List ℕ) : Type 0 where
   pub among : (k : ℕ) → shown_by labels k ≡ true → shown_by all k ≡ true
   pub near : (j k : ℕ) → is_done all left j ≡ true → (watches answers j k || depends answers j k) ≡ true → shown_by all k ≡ true
@@ -22,7 +22,7 @@ linking_start answers labels all left all_are left_are = record {
   near = λ j k done links. absurd (let e : false ≡ true = none_done labels j (ap (λ l. is_done labels l j) (sym left_are) ∙ ap (λ l. is_done l left j) (sym all_are) ∙ done) (shown_by labels j) refl in cc);
 }
 
--- where one is at the end of a list
+-- Whether a label is in a list with one more label at the end.
 at_last : (xs : List ℕ) (x j : ℕ) → shown_by (xs ++ x ∷ []) j ≡ ((x == j) || shown_by xs j)
 at_last [] x j = refl
 at_last (y ∷ xs) x j = ap (λ b. (y == j) || b) (at_last xs x j) ∙ swapped (y == j) (x == j) (shown_by xs j)
@@ -32,7 +32,7 @@ at_last (y ∷ xs) x j = ap (λ b. (y == j) || b) (at_last xs x j) ∙ swapped (
     swapped true false c = refl
     swapped false b c = refl
 
--- what is next to one more label was added
+-- The labels that are directly linked to one more label were added.
 pub linking_on : (answers : PolicyMemo) (labels all left rest all_now left_now : List ℕ) (x : ℕ) → left ≡ rest ++ x ∷ [] →
     Linking answers labels all left →
     ((k : ℕ) → (watches answers x k || depends answers x k) ≡ true → shown_by all_now k ≡ true) →
@@ -55,7 +55,7 @@ linking_on answers labels all left rest all_now left_now x left_is before near k
 done_at_end : (all : List ℕ) (j : ℕ) → shown_by all j ≡ true → (shown_by all j && true) ≡ true
 done_at_end all j s = ap (λ b. b && true) s
 
--- where none is left, all are linked
+-- If no label is left, all that are linked were found.
 pub linking_end : (answers : PolicyMemo) (labels all left : List ℕ) → left ≡ [] → Linking answers labels all left → AreLinked answers labels all
 linking_end answers labels all left none linking = record {
   linked = record {

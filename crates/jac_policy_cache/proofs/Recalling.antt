@@ -1,4 +1,4 @@
--- Answers that are remembered, over plain lists.
+-- Cached results, over plain lists.
 use Rattle.std.proofs.Common.{◌≡◌, ◌==◌, ◌&&◌, ◌||◌, ℕ, Bool, true, false, if◌then◌else◌, List, [], ◌∷◌, ◌++◌, Option, Some, None, refl, ap, sym, subst, ◌∙◌, arith, unwrap_or, ◌<◌, ◌+◌, suc, length, drop, get_or, drop-cons, add-one}
 use Rattle.std.specs.List.{list_any}
 use Rattle.std.specs.Option.{is_some}
@@ -12,7 +12,7 @@ use Rattle.jac_world.specs.World.{names}
 use Rattle.jac_world.proofs.Contradict.{by_names}
 use Rattle.jac_policy_cache.specs.Memo.{first_fitting, depends_in, names_label, or_known, recall_in, signed_labels, watched_in}
 
--- one answer more of a label
+-- One more result of a label.
 
 more_if : (b y : Bool) (p q : Option Bool) (c : MemoEntry) (w : ℕ → Bool) → p ≡ or_known q c w → (if b then Some y else p) ≡ or_known (if b then Some y else q) c w
 more_if true y p q c w h = refl
@@ -46,7 +46,7 @@ pub or_none : (old : Option LabelMemo) (none : LabelMemo) → none.answers.items
 or_none None none empty = empty
 or_none (Some given) none empty = refl
 
--- the labels that its answers name
+-- The labels that its results name.
 
 named_if : (a b c : Bool) → (a || (b || c)) ≡ (b || (a || c))
 named_if true true c = refl
@@ -73,7 +73,7 @@ depended_more old new given known label j k new_is is =
     ap (λ o. depends_in o k) new_is
     ∙ depended_if (old j) given known (label == j) k (λ e. is ∙ ap (λ (i : ℕ). items_in (old i) ++ known ∷ []) ((Decides-eqb label j).0 e))
 
--- an answer depends on those labels alone that are named
+-- A result depends only on the labels that are named.
 first_by : (cs : List MemoEntry) (v w : ℕ → Bool) → ((k : ℕ) → names_label cs k ≡ true → v k ≡ w k) → first_fitting cs v ≡ first_fitting cs w
 first_by [] v w alike = refl
 first_by (c ∷ cs) v w alike =
@@ -84,14 +84,14 @@ pub recall_by : (given : Option LabelMemo) (v w : ℕ → Bool) → ((k : ℕ) �
 recall_by None v w alike = refl
 recall_by (Some given) v w alike = first_by given.answers.items v w alike
 
--- the step of a loop by index
+-- The step of a loop by index.
 pub next : {T : Type 0} (xs : List T) (x : T) (i : ℕ) → x ≡ get_or xs i x → i < length xs → drop i xs ≡ x ∷ drop (i + 1) xs
 next xs x i item below = rw add-one (drop-cons xs i x below ∙ ap (λ z. z ∷ drop (suc i) xs) (sym item))
 
 pub is_at_number : (k j : ℕ) → is_eq (nat_cmp k j) ≡ (k == j)
 is_at_number k j = grind (arith, nat_tests)
 
--- the labels that are watched are the keys
+-- The labels that are watched are the keys.
 
 same_test : (a b : ℕ) → (a == b) ≡ (b == a)
 same_test a b = grind (arith, nat_tests)
@@ -113,7 +113,7 @@ or_nothing true t = refl
 or_nothing false true = refl
 or_nothing false false = refl
 
--- where none is left, all that were asked were looked at
+-- If none is left, all labels with cached results have been examined.
 pub asked_all : (a b t x y z : Bool) → y ≡ false → z ≡ x → (a || (t && y)) ≡ (b || (t && x)) → a ≡ (b || (t && z))
 asked_all a b t x y z none is h = sym (or_nothing a t) ∙ ap (λ c. a || (t && c)) (sym none) ∙ h ∙ ap (λ c. b || (t && c)) (sym is)
 
@@ -121,7 +121,7 @@ pub left_alone : (a b : Bool) → b ≡ false → (a || b) ≡ true → a ≡ tr
 left_alone true b none h = refl
 left_alone false b none h = absurd (let e : true ≡ false = sym h ∙ none in cc)
 
--- one watcher more of a label
+-- One more watcher of a label.
 
 watched_if : (old : Option (List ℕ)) (watchers : List ℕ) (b : Bool) (label j : ℕ) → (b ≡ true → shown_by watchers j ≡ ((label == j) || watched_in old j)) →
     watched_in (if b then Some watchers else old) j ≡ ((b && label == j) || watched_in old j)
@@ -143,7 +143,7 @@ watched_more old new before watchers none watched label k j new_is empty before_
     ∙ ap (λ b. (label == j) || b) (or_nobody (old watched) none j empty)
     ∙ ap (λ (i : ℕ). (label == j) || watched_in (old i) j) ((Decides-eqb watched k).0 e))
 
--- the first answer that fits, one after another
+-- The first result that fits, one after another.
 
 pub fits_not : (xs rest : List MemoEntry) (x : MemoEntry) (w : ℕ → Bool) (all : Option Bool) → xs ≡ x ∷ rest → holds w x.when ≡ false → first_fitting xs w ≡ all → first_fitting rest w ≡ all
 fits_not xs rest x w all is fails so_far = ap (λ b. if b then Some x.holds else first_fitting rest w) (sym fails) ∙ ap (λ l. first_fitting l w) (sym is) ∙ so_far
@@ -156,6 +156,6 @@ signed_rises w [] up = tt
 signed_rises w (k ∷ []) up = (tt, tt)
 signed_rises w (k ∷ (j ∷ ks)) up = (up.0, signed_rises w (j ∷ ks) up.1)
 
--- what holds of a value holds of one that is equal to it
+-- A property of a value holds for an equal value.
 pub at_end : {M : Type 0} (P : M → Type 0) (m n : M) → P n → m ≡ n → P m
 at_end P m n holds_there is = subst P (sym is) holds_there

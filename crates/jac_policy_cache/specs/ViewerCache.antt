@@ -1,4 +1,4 @@
--- What was settled for somebody, and what a change leaves of it.
+-- The cache of one viewer, and what a change leaves of it.
 use Rattle.std.specs.Prelude.{◌≡◌, ◌==◌, ◌||◌, ℕ, Bool, true, List, Option, None, if◌then◌else◌}
 use Rattle.std.specs.List.{list_any}
 use Rattle.jac_world.specs.World.{shown_by}
@@ -8,8 +8,8 @@ use Rattle.jac_policy_cache.specs.declared.invalidation.Invalidation.{Invalidati
 use Rattle.jac_policy_cache.specs.Memo.{recall, watches, depends, is_asked}
 use Rattle.jac_policy_cache.specs.Affected.{affects}
 
--- what was answered of affected labels is forgotten, and these are stale, with all that their
--- answers depended on
+-- The results of affected labels are forgotten. These labels are stale, and so are all labels that
+-- their results depended on.
 pub record Invalidates (invalidation : Invalidation) (viewer : Option ℕ)
     (old new : ViewerCache) : Type 0 where
   pub labels : new.labels ≡ old.labels
@@ -23,11 +23,11 @@ pub record Invalidates (invalidation : Invalidation) (viewer : Option ℕ)
   pub dependent : (j k : ℕ) → affects invalidation viewer j ≡ true → depends old.answers j k ≡ true
       → shown_by new.stale k ≡ true
 
--- nothing was asked or settled
+-- No result is cached, and no labels have been settled.
 pub record IsEmptyCache (cache : ViewerCache) : Type 0 where
   pub labels : cache.labels ≡ None
   pub recalls : (k : ℕ) (w : ℕ → Bool) → recall cache.answers k w ≡ None
 
--- the label is one of these, or an answer of one of these depends on it
+-- The label is one of these, or a result of one of these depends on it.
 abbrev pub is_marked : PolicyMemo → List ℕ → ℕ → Bool
 is_marked answers labels k = list_any (λ (j : ℕ). j == k || depends answers j k) labels

@@ -1,4 +1,4 @@
-//! What was answered of each label, found by the label or by its group.
+//! Cached results of policies, found by the label or by its group.
 ghost use Rattle.std.specs.Prelude.{◌≡◌, ◌==◌, ◌||◌, ◌&&◌, ◌+◌, ◌*◌, ◌%◌, ℕ, Bool, None, is_some, if◌then◌else◌, OnOk};
 ghost use Rattle.std.specs.BTreeMap.{get};
 ghost use Rattle.std.specs.List.{list_any};
@@ -16,8 +16,8 @@ use jac_world::Label;
 use std::alloc::Global;
 use std::collections::BTreeMap;
 
-/// What was answered of each label. Those of one group of all records of a model stand together, by
-/// the remainder by 512, which tells both.
+/// The cached results of each label. The labels of one group of a model are stored together, under
+/// the remainder by 512 that they have in common.
 #[derive(Drop)]
 pub struct ByGroup {
     groups: BTreeMap<u16, BTreeMap<Label, LabelMemo>>,
@@ -32,7 +32,7 @@ impl ByGroup {
         }
     }
 
-    /// What was answered of the label.
+    /// The cached results of the label.
     pub fn get(&self, label: Label) -> Option<&LabelMemo>
         ensures { option_copied result ≡ given_of self.now label }
     {
@@ -42,7 +42,7 @@ impl ByGroup {
         }
     }
 
-    /// Remembers an answer of the label after the others.
+    /// Adds a result of the label after its other results.
     pub fn give(&mut self, alloc: Global, label: Label, known: MemoEntry) -> Result<(), Memory>
         ensures depends { OnOk result ((j k : ℕ) → depends_in (given_of self.new j) k
             ≡ ((label == j && names known.when k) || depends_in (given_of self.old j) k)) }
@@ -55,7 +55,7 @@ impl ByGroup {
         give(group, alloc, label, known)
     }
 
-    /// Forgets what was answered of the label.
+    /// Removes the cached results of the label.
     pub fn forget(&mut self, label: Label)
         ensures { (k : ℕ)
             → given_of self.new k ≡ (if label == k then None else given_of self.old k) }
@@ -66,8 +66,8 @@ impl ByGroup {
         }
     }
 
-    /// Adds, in no order, the labels of which something was answered of those groups that are for
-    /// this viewer.
+    /// Adds the labels with cached results in the groups that are affected for this viewer, in no
+    /// particular order.
     pub fn add_affected(
         &self,
         groups: &[AffectedGroup],
@@ -110,7 +110,7 @@ impl ByGroup {
         }
     }
 
-    /// Of how many labels something was answered.
+    /// The number of labels with cached results.
     pub fn len(&self) -> usize {
         let mut labels: usize = 0;
         'groups: for group in self.groups.values() {
@@ -120,14 +120,14 @@ impl ByGroup {
     }
 }
 
-// The remainder of a label, which is that of all labels of its group.
+// The remainder of a label by 512. All labels of a group have the same one.
 fn group_of(label: Label) -> u16
     ensures { result ≡ label % 512 }
 {
     (label.0 % 512) as u16
 }
 
-// The remainder of the labels of a group, where the group has any.
+// The remainder of the labels of a group, if the group has any.
 fn number_of(model: u8, group: u8) -> u16
     ensures { result ≡ model * 8 + group }
 {
@@ -175,7 +175,8 @@ fn add_asked(
     Ok(())
 }
 
-// A label that stands with those of a group is of that group; it is tested here, and no invariant.
+// The labels that are stored with those of a group belong to the group. This is tested here instead
+// of being an invariant.
 fn add_if_in(group: &AffectedGroup, label: Label, labels: &mut Vec<Label>) -> Result<(), Memory>
     ensures { OnOk result ((k : ℕ) → shown_by labels.new.items k ≡ (shown_by labels.old.items k
         || (label == k && is_in_group group.now k))) }

@@ -1,4 +1,4 @@
-//! The labels whose policies may answer otherwise after a change.
+//! The labels whose policies may give other results after a change.
 ghost use Rattle.std.specs.Prelude.{◌≡◌};
 ghost use Rattle.jac_value.specs.Ids.{record_of_label};
 ghost use Rattle.jac_policy_cache.specs.Affected.{is_for, is_in_group, is_same_viewer};
@@ -7,15 +7,15 @@ use crate::Labels;
 use jac_value::{Id, id_model};
 use jac_world::Label;
 
-/// To whom a policy may answer otherwise.
+/// The viewers for whom a policy may give another result.
 #[derive(Drop)]
 pub enum Audience {
     Everybody,
-    /// To this viewer, or to nobody's requests.
+    /// This viewer. `None` means requests without a viewer.
     Only(Option<Id>),
 }
 
-/// A group of all records of a model, whose policy may answer otherwise.
+/// A group of a model whose policy may give another result.
 #[derive(Drop)]
 pub struct AffectedGroup {
     pub model: u8,
@@ -23,9 +23,9 @@ pub struct AffectedGroup {
     pub viewer: Audience,
 }
 
-/// What a change may affect: the labels of each record that it names, those of records whose
-/// policies find such a record by a value, and whole groups whose policies go through a table, or
-/// read the viewer's own record.
+/// What a change may affect: the labels of each record that it names, the labels of records whose
+/// policies find such a record by a value, and the groups whose policies go through a table or read
+/// the viewer's own record.
 #[derive(Drop)]
 pub struct Invalidation {
     pub labels: Labels,

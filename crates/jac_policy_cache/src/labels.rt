@@ -6,7 +6,7 @@ use jac_world::{Label, add_among, is_among};
 use std::alloc::Global;
 use std::marker::Model;
 
-/// Labels by rising number, each once.
+/// Labels by rising number, without duplicates.
 #[derive(Drop)]
 pub struct Labels {
     labels: Vec<Label>,
@@ -32,7 +32,7 @@ impl Labels {
         }
     }
 
-    /// The labels by rising number.
+    /// The labels by rising number, without duplicates.
     pub fn rising(labels: Vec<Label>) -> Labels
         ensures same { (k : ℕ) → shown_by result k ≡ shown_by labels.items k }
         ensures ascending { IsAscending result }
@@ -61,7 +61,7 @@ impl Labels {
         self.labels.len()
     }
 
-    /// The same labels and this one.
+    /// Adds the label to these.
     pub fn add(&mut self, label: Label) -> Result<(), Memory>
         ensures { OnOk result ((k : ℕ) → shown_by self.new k ≡ (label == k
             || shown_by self.old k)) }

@@ -1,5 +1,5 @@
-//! What policies answered, remembered with the signs of the labels that were consulted; and what
-//! was settled by it for somebody, with what has to be settled again after a change.
+//! The cache of one viewer's labels, and of answers of policies. It defines what a change
+//! invalidates.
 #![tactic(auto)]
 
 mod by_group;

@@ -1,4 +1,4 @@
-//! Labels with all that they are linked to by what was answered.
+//! Labels with all that they are linked to by cached results.
 ghost use Rattle.std.specs.Prelude.{◌≡◌, ◌==◌, ◌||◌, ℕ, true, IfOk, OnOk};
 ghost use Rattle.jac_world.specs.World.{shown_by};
 ghost use Rattle.jac_policy_cache.specs.Linked.{AreLinkedIf, IsDoneBefore};
@@ -9,7 +9,7 @@ use jac_value::Memory;
 use jac_world::Label;
 use std::alloc::Global;
 
-// The labels with all that they are linked to, or none, where these aren't fewer than `most`.
+// The labels with all that they are linked to. `None` if these aren't fewer than `most`.
 pub(crate) fn linked(
     answers: &PolicyMemo,
     alloc: Global,
@@ -32,7 +32,7 @@ pub(crate) fn linked(
     Ok(None)
 }
 
-// Adds the labels that are next to this one.
+// Adds the labels that are directly linked to this one.
 fn add_near(
     answers: &PolicyMemo,
     alloc: Global,
@@ -51,8 +51,8 @@ fn add_near(
     add_new(near.as_slice(), all, left)
 }
 
-// Adds those labels that aren't there yet to all, and to those whose links are still to be looked
-// at.
+// Adds to `all` the labels that aren't in it yet. They are also added to `left`, the labels whose
+// links are still to be followed.
 fn add_new(labels: &[Label], all: &mut Labels, left: &mut Vec<Label>) -> Result<(), Memory>
     ensures all { OnOk result ((k : ℕ)
         → shown_by all.new k ≡ (shown_by all.old k || shown_by labels.now k)) }

@@ -1,4 +1,4 @@
-//! Answers of policies, remembered with the signs of the labels that were consulted for them.
+//! Cached results of policies, each with a guard of the labels that were consulted for it.
 ghost use Rattle.std.specs.Prelude.{◌≡◌, ◌==◌, ◌||◌, ◌&&◌, ℕ, Bool, false, None, Some, true, is_some, if◌then◌else◌, Option, IfOk, OnOk};
 ghost use Rattle.jac_world.specs.World.{shown_by, holds, names, IsAscending};
 ghost use Rattle.std.specs.Ordering.{nat_cmp};
@@ -16,32 +16,33 @@ use jac_world::{Assignment, Guard, Label};
 use std::alloc::Global;
 use std::collections::BTreeMap;
 
-/// What the policy of a label answers wherever the labels that were consulted have these signs.
+/// The result of a label's policy under each assignment for which the guard holds.
 #[derive(Drop)]
 pub struct MemoEntry {
     pub when: Guard,
     pub holds: bool,
 }
 
-/// All that was answered of one label, the oldest first.
+/// All cached results of one label, the oldest first.
 #[derive(Drop)]
 pub struct LabelMemo {
     pub answers: Vec<MemoEntry>,
 }
 
-/// What was answered of each label; and by each label the others, its watchers, that consulted it
-/// for an answer.
+/// The cached results of each label, and the watchers of each label. A watcher is a label that
+/// consulted this one for a result.
 #[derive(Drop)]
 pub struct PolicyMemo {
     pub given: ByGroup,
     pub watchers: BTreeMap<Label, Labels>,
-    /// How many watchers all labels have. It never falls, since watchers stay.
+    /// The number of watchers of all labels. It never falls, because watchers aren't removed.
     links: usize,
-    /// How many labels the remembered answers name, each as often as an answer names it.
+    /// The number of labels that the cached results name. A label counts once for each result that
+    /// names it.
     named: usize,
 }
 
-/// So many watchers may be left over before a memo counts as crowded.
+/// The number of watchers that may be left over before a memo counts as crowded.
 const SPARE: usize = 1024;
 
 impl PolicyMemo {
@@ -57,7 +58,7 @@ impl PolicyMemo {
         }
     }
 
-    /// What is remembered of the label under the assignment, once the label itself is shown.
+    /// The cached result of the label under the assignment with the label itself shown.
     pub fn recalled(&self, a: &Assignment, label: Label) -> Option<bool>
         ensures { result ≡ recall self.now label (with_label label (shown_by a.now)) }
     {
@@ -67,8 +68,8 @@ impl PolicyMemo {
         }
     }
 
-    /// Whether it is remembered that the label isn't allowed under the assignment, once it is
-    /// shown.
+    /// Whether a cached result says that the label isn't allowed under the assignment with the
+    /// label itself shown.
     pub fn refuses(&self, a: &Assignment, label: Label) -> bool
         ensures { result ≡ true
             → recall self.now label (with_label label (shown_by a.now)) ≡ Some false }
@@ -79,7 +80,7 @@ impl PolicyMemo {
         }
     }
 
-    /// Remembers an answer of the label, which then watches all labels that were consulted.
+    /// Caches a result of the label. The label then watches all labels that were consulted.
     pub fn put(&mut self, alloc: Global, label: Label, known: MemoEntry) -> Result<(), Memory>
         ensures watches { OnOk result ((k j : ℕ)
             → watches self.new k j ≡ ((names known.when k && label == j) || watches self.old k j)) }
@@ -96,7 +97,7 @@ impl PolicyMemo {
         self.given.give(alloc, label, known)
     }
 
-    /// The labels whose answers depend on whether this one is shown.
+    /// The labels that consulted this one for a result.
     pub fn watchers(&self, alloc: Global, label: Label) -> Result<Labels, Memory>
         ensures { IfOk result (λ ls. (j : ℕ) → shown_by ls j ≡ watches self.now label j) }
     {
@@ -106,7 +107,7 @@ impl PolicyMemo {
         }
     }
 
-    /// Adds the labels that the answers of this one depend on.
+    /// Adds the labels that the cached results of this one depend on.
     pub fn add_named(&self, label: Label, labels: &mut Labels) -> Result<(), Memory>
         ensures { OnOk result ((k : ℕ)
             → shown_by labels.new k ≡ (shown_by labels.old k || depends self.now label k)) }
@@ -117,9 +118,9 @@ impl PolicyMemo {
         }
     }
 
-    // Adds those labels of which something was answered that the change may affect, to labels that
-    // have those that it names. Of all that were asked it looks at the labels of its groups alone,
-    // where these are for this viewer.
+    // Adds the labels with cached results that the change may affect. The labels that the change
+    // names are already in `labels`. Only the groups that are affected for this viewer are
+    // searched.
     pub(crate) fn add_affected(
         &self,
         alloc: Global,
@@ -139,7 +140,7 @@ impl PolicyMemo {
         Ok(())
     }
 
-    /// Forgets what was answered of the label. Its watchers stay, and the labels that it watches.
+    /// Forgets the results of the label. Its watchers stay, and so do the labels that it watches.
     pub fn forget(&mut self, label: Label)
         ensures recalls { (k : ℕ) (w : ℕ → Bool)
             → recall self.new k w ≡ (if label == k then None else recall self.old k w) }
@@ -157,14 +158,14 @@ impl PolicyMemo {
         self.given.forget(label);
     }
 
-    /// Whether most of the watchers are left over from answers that were forgotten. Records that
-    /// are made and deleted for ever leave ever more of them.
+    /// Whether most of the watchers are left over from forgotten results. Their number keeps
+    /// growing if records are made and deleted for ever.
     pub fn is_crowded(&self) -> bool {
         self.links / 2 > self.named.saturating_add(SPARE)
     }
 
-    /// The labels with all that watch them, and all that their answers depend on, again and again;
-    /// or none, where these aren't fewer than `most`.
+    /// The labels with all labels that watch them and all that their results depend on,
+    /// transitively. `None` if these aren't fewer than `most`.
     pub fn linked(
         &self,
         alloc: Global,
@@ -176,13 +177,13 @@ impl PolicyMemo {
         linked(self, alloc, labels, most)
     }
 
-    /// Of how many labels something was answered.
+    /// The number of labels with cached results.
     pub fn len(&self) -> usize {
         self.given.len()
     }
 }
 
-// The first answer whose signs are those of the assignment, once the label is shown.
+// The first result whose guard holds under the assignment with the label shown.
 fn first_fitting(answers: &[MemoEntry], a: &Assignment, label: Label) -> Option<bool>
     ensures { result ≡ first_fitting answers.now (with_label label (shown_by a.now)) }
 {
@@ -226,7 +227,7 @@ fn add_pairs(pairs: &[(Label, bool)], labels: &mut Labels) -> Result<(), Memory>
     Ok(())
 }
 
-// How many watchers the labels of these pairs have.
+// The number of watchers of the labels of these pairs.
 fn links_of(watchers: &BTreeMap<Label, Labels>, pairs: &[(Label, bool)]) -> usize {
     let mut links: usize = 0;
     'pairs: for pair in pairs {
@@ -242,7 +243,7 @@ fn watchers_of(watchers: &BTreeMap<Label, Labels>, label: Label) -> usize {
     }
 }
 
-// How many labels these answers name.
+// The number of labels that these results name.
 fn named_by(answers: &[MemoEntry]) -> usize {
     let mut named: usize = 0;
     'answers: for known in answers {
@@ -266,7 +267,7 @@ fn watch_all(
     Ok(())
 }
 
-// The first label is watched by the second.
+// Makes the second label a watcher of the first.
 fn watch(
     watchers: &mut BTreeMap<Label, Labels>,
     alloc: Global,
@@ -281,7 +282,7 @@ fn watch(
     Ok(())
 }
 
-/// The guard that holds where the labels are shown and hidden as under the assignment.
+/// The guard that holds if the labels are shown and hidden as under the assignment.
 pub fn signs(alloc: Global, labels: &[Label], a: &Assignment) -> Result<Guard, Memory>
     requires { IsAscending labels.now }
     ensures { IfOk result (λ g. g ≡ signed_labels (shown_by a.now) labels.now) }

@@ -1,4 +1,4 @@
-//! What was settled for somebody.
+//! A viewer's cache.
 ghost use Rattle.std.specs.Prelude.{◌≡◌, ◌||◌, ◌&&◌, ◌==◌, ℕ, Bool, None, if◌then◌else◌, IfOk, OnOk};
 ghost use Rattle.jac_world.specs.World.{shown_by};
 ghost use Rattle.jac_policy_cache.specs.Memo.{depends, is_asked, recall, watches};
@@ -10,12 +10,13 @@ use jac_value::{Id, Memory};
 use jac_world::{Assignment, Label};
 use std::alloc::Global;
 
-/// So many labels may be stale beyond those that were asked before a cache counts as overgrown.
+/// The number of stale labels that a cache may have beyond its labels with cached results before it
+/// counts as overgrown.
 const SPARE: usize = 1024;
 
-/// What was settled for somebody: the labels, once there are some, what the policies answered, and
-/// the labels that are stale, since what was answered of them, or of what depends on them, may no
-/// longer be right.
+/// A viewer's cache: the labels that are shown, if they were settled; the results of policies; and
+/// the stale labels. A label is stale if its cached result, or a result that depends on it, may be
+/// wrong.
 #[derive(Drop)]
 pub struct ViewerCache {
     pub labels: Option<Assignment>,
@@ -24,7 +25,7 @@ pub struct ViewerCache {
 }
 
 impl ViewerCache {
-    /// The cache of somebody for whom nothing was settled yet.
+    /// The cache of a viewer for whom nothing has been settled.
     pub fn empty(alloc: Global) -> ViewerCache
         ensures { IsEmptyCache result }
     {
@@ -35,8 +36,9 @@ impl ViewerCache {
         }
     }
 
-    /// Forgets what a change may affect, and marks as stale what depended on it. It looks at the
-    /// named labels and at those of the affected groups, and not at all that were asked.
+    /// Forgets the results that a change may affect. The affected labels become stale, and so do
+    /// the labels that their results depend on. Only the labels that the change names and the
+    /// affected groups are searched, not all labels with cached results.
     pub fn invalidate(
         &mut self,
         alloc: Global,
@@ -51,14 +53,15 @@ impl ViewerCache {
         Ok(())
     }
 
-    /// Whether to settle anew costs less than to keep this: more labels are stale than were asked,
-    /// or most watchers are left over. A viewer who doesn't come back would have ever more of them.
+    /// Whether settling anew costs less than keeping this cache: too many labels are stale, or most
+    /// watchers are left over. The cache of a viewer who doesn't return would otherwise keep
+    /// growing.
     pub fn is_overgrown(&self) -> bool {
         self.stale.len() > self.answers.len().saturating_add(SPARE) || self.answers.is_crowded()
     }
 }
 
-// The labels that are named, and those that were asked and are affected.
+// The labels that the change names, and the labels with cached results that it affects.
 fn affected_of(
     alloc: Global,
     answers: &PolicyMemo,
@@ -75,7 +78,7 @@ fn affected_of(
     Ok(affected)
 }
 
-// Each of the labels is stale, and what its answers depend on.
+// Marks each of the labels as stale, and the labels that its results depend on.
 fn mark_all(answers: &PolicyMemo, labels: &[Label], stale: &mut Labels) -> Result<(), Memory>
     ensures { OnOk result ((k : ℕ)
         → shown_by stale.new k ≡ (shown_by stale.old k || is_marked answers.now labels.now k)) }
