@@ -1,4 +1,4 @@
--- What depends on none of some records has the same value without them.
+-- An expression has the same value in a world without some records if it depends on none of them.
 use Rattle.std.proofs.Common.{◌≡◌, ◌∙◌, refl, sym, ap, subst, arith, pos, ℕ, zero, suc, inl, inr, ◌==◌, ◌&&◌, not, Bool, true, false, if◌then◌else◌, List, [], ◌∷◌, ◌++◌, length}
 use Rattle.std.specs.Prelude.{Option, Some, None, map, unwrap_or}
 use Rattle.std.specs.Option.{option_to_list}
@@ -32,7 +32,7 @@ use Rattle.jac_policy_deps.specs.declared.dependency.Referent.TheVariants as ref
 use Rattle.jac_policy_deps.specs.Dependencies.{may_refer, field_if, field_referent, model_referent, own_referent, named_referent, is_same_referent, is_referent_in, is_referent, one_or_other, asked_field, found_field, found_link, dependency_found_at, dependency_found_in, dependency_found_by, dependency_linked_by, found_dependency, table_dependency, one_dependency, records_dependency, binder_dependency, binder_dependencies, read_dependency, live_dependency, dependencies, dependencies_each}
 use Rattle.jac_policy_deps.specs.Cleared.{cleared_world, is_clear, referent_in, field_in, IsTest}
 
--- a test of all of two lists
+-- A test of all elements of two lists.
 and_split : (a b c : Bool) → (a ≡ true → b ≡ true → c ≡ true) → (a && b) ≡ true → c ≡ true
 and_split a b c f h = let parts = and_parts a b h in f parts.0 parts.1
 
@@ -46,7 +46,7 @@ all_parts t (x ∷ xs) ys h =
 all_one : (t : Dependency → Bool) (x : Dependency) → list_all t (x ∷ []) ≡ true → t x ≡ true
 all_one t x h = (and_parts (t x) true h).0
 
--- rows without some records
+-- Rows without some records.
 abbrev AllStay : (ℕ → Bool) → List ℕ → Type 0
 AllStay stays ids = AllByRecursion (λ (id : ℕ). stays id ≡ true) ids
 
@@ -90,12 +90,12 @@ stands_if stays true false r id rows e f h k =
     let there : stands (record_with id (with_ids stays rows)) ≡ true = rw f at k in h there
 stands_if stays false c r id rows e f h k = h k
 
--- a record that stands among those that stay does
+-- A record that exists among those that stay is one that stays.
 pub stands_stays : (stays : ℕ → Bool) (id : ℕ) (rows : List PlainRow) → stands (record_with id (with_ids stays rows)) ≡ true → stays id ≡ true
 stands_stays stays id [] h = absurd cc
 stands_stays stays id (r ∷ rows) h = stands_if stays (stays r.id) (r.id == id) r id rows refl refl (stands_stays stays id rows) h
 
--- tuples of records that stay
+-- Tuples of records that stay.
 stay_append : (stays : ℕ → Bool) (xs : List ℕ) (id : ℕ) → AllStay stays xs → stays id ≡ true → AllStay stays (xs ++ id ∷ [])
 stay_append stays [] id all s = (s, tt)
 stay_append stays (x ∷ xs) id all s = (all.0, stay_append stays xs id all.1 s)
@@ -130,7 +130,7 @@ crossed_cut : (stays : ℕ → Bool) (ts : List (List ℕ)) (rows : List PlainRo
 crossed_cut stays [] rows = refl
 crossed_cut stays (t ∷ ts) rows = ap (λ l. extended_tuples t (with_ids stays rows) ++ l) (crossed_cut stays ts rows)
 
--- environments
+-- Environments.
 clear_look : (stays : ℕ → Bool) (v : Value) (env : List Binding) (x : List ℕ) → is_clear stays v ≡ true → AllClear stays env → is_clear stays (look_from v env x) ≡ true
 clear_look stays v [] x h all = h
 clear_look stays v (b ∷ env) x h all = clear_look stays (if same_text b.name x then b.bound_to else v) env x (clear_if (same_text b.name x) b.bound_to v all.0 h) all.1
@@ -145,7 +145,8 @@ clear_bound stays (b ∷ bs) [] env s all = all
 clear_bound stays (b ∷ bs) (id ∷ ids) env s all =
     clear_bound stays bs ids (env ++ binding b.name (value.Ref (Some id)) ∷ []) s.1 (clear_append stays env (binding b.name (value.Ref (Some id))) all s.0)
 
--- a condition that is the same in clear environments keeps the same tuples, and they stay
+-- A condition with the same value in clear environments keeps the same tuples, and their records
+-- stay.
 kept_same : (stays : ℕ → Bool) (bs : List Binder) (cond other : List Binding → Value) (env : List Binding) (ts : List (List ℕ))
     → ((en : List Binding) → AllClear stays en → cond en ≡ other en) → AllClear stays env → AllTuples stays ts
     → kept_by bs cond env ts ≡ kept_by bs other env ts
@@ -163,7 +164,7 @@ kept_stay : (stays : ℕ → Bool) (bs : List Binder) (cond : List Binding → V
 kept_stay stays bs cond env [] all = tt
 kept_stay stays bs cond env (t ∷ ts) all = tuple_if stays (is_true (cond (bound bs t env))) t (kept_by bs cond env ts) all.0 (kept_stay stays bs cond env ts all.1)
 
--- a sort by keys that are the same for these tuples
+-- A sort by keys that are the same for these tuples.
 inserted_if : (stays : ℕ → Bool) (b : Bool) (x y : List ℕ) (ys zs : List (List ℕ)) → AllStay stays x → AllStay stays y → AllTuples stays ys → AllTuples stays zs → AllTuples stays (if b then y ∷ zs else x ∷ (y ∷ ys))
 inserted_if stays true x y ys zs a b c d = (b, d)
 inserted_if stays false x y ys zs a b c d = (a, (b, c))
@@ -205,7 +206,7 @@ summed_same stays bs term other env v (t ∷ ts) f clear all =
 sum_if : (b : Bool) (x y : Value) → x ≡ y → (if b then x else value.Int (pos 0)) ≡ (if b then y else value.Int (pos 0))
 sum_if b x y e = ap (λ v. if b then v else value.Int (pos 0)) e
 
--- what a condition finds records by
+-- What a condition finds records by.
 pub same_referent : (s t : Referent) → is_same_referent s t ≡ true → s ≡ t
 same_referent referent.This referent.This e = refl
 same_referent (referent.Field m f) (referent.Field n g) e =
@@ -234,7 +235,7 @@ own_mean : (w : World) (s : Referent) (m f : List ℕ) (e : Expression) (env : L
 own_mean w s m f Expression.this env h = model_mean w s (model_place w.models m) f h
 own_mean w s m f e env h = absurd cc
 
--- an expression that names a record has its value
+-- An expression that names a record has the value of that record's referent.
 named_mean : (w : World) (s : Referent) (e : Expression) (env : List Binding) → named_referent w.models e ≡ Some s → mean w e env ≡ referent_in w s
 named_mean w s Expression.this env h = let same : referent.This ≡ s = cc in ap (referent_in w) same
 named_mean w s Expression.viewer env h = let same : referent.Viewer ≡ s = cc in ap (referent_in w) same
@@ -259,7 +260,7 @@ else_parts : (P : List ℕ → Type 0) (a b : Option (List ℕ)) (f : List ℕ) 
 else_parts P None b f p q h = q h
 else_parts P (Some x) b f p q h = p h
 
--- a condition asks that a field be what an expression has that names the record
+-- The condition equates a field with an expression that names the record.
 record AsksBy (models : List Entity) (s : Referent) (m x : List ℕ) (bs : List Binder) (c : Expression) (f : List ℕ) : Type 0 where
   by : Expression
   named : named_referent models by ≡ Some s
@@ -276,7 +277,7 @@ found_asks models s m x bs (Expression.two op.Eq a b) f h =
     record { by = b; named = is; asks = (parts.1, named_fixed models s b bs is, refl) }
 found_asks models s m x bs e f h = absurd cc
 
--- what is read of a record that stays
+-- Reading a record that stays.
 module _ (stays : ℕ → Bool) (test : Dependency → Bool) (w : World) (fits : IsTest stays test w) where
   abbrev cleared : World
   cleared = cleared_world stays w
@@ -360,7 +361,7 @@ module _ (stays : ℕ → Bool) (test : Dependency → Bool) (w : World) (fits :
   live_same (Expression.none_of n) env clear h = refl
   live_same e env clear h = live_one (mean w e env) (named_referent w.models e) (λ s is. named_mean w s e env is) h
 
-  -- the tuples of records that stay
+  -- The tuples of records that stay.
   records_cleared : (m : Option ℕ) → rows_at_place (map (with_ids stays) w.tables) m ≡ with_ids stays (rows_at_place w.tables m)
   records_cleared None = refl
   records_cleared (Some m) = rows_cleared stays w.tables m
@@ -386,7 +387,7 @@ module _ (stays : ℕ → Bool) (test : Dependency → Bool) (w : World) (fits :
       later_dependencies done b later c
       (all_parts test (option_to_list (binder_dependency w.models d (done ++ (b ∷ later)) c)) (binder_dependencies w.models (done ++ (b ∷ later)) c) h).1
 
-  -- where the test is passed, a record at which the condition is true stays
+  -- If the test is passed, a record for which the condition is true stays.
   covered_table : (m id : ℕ) → test (dependency.Table m) ≡ true → stands (record_with id (rows_of w.tables m)) ≡ true → stays id ≡ true
   covered_table m id t s = stands_stays stays id (rows_of w.tables m) (ap (λ rows. stands (record_with id rows)) (fits.table m t) ∙ s)
 

@@ -1,4 +1,4 @@
--- What was read of a keeper so far.
+-- What was read from a keeper up to some point.
 use Rattle.std.specs.Prelude.{IsTrue}
 use Rattle.jac_keep.specs.KeeperSeen.{KeeperSeen, IsLeft}
 

@@ -1,4 +1,4 @@
--- A label that no mark is of is spared.
+-- A label that no mark covers is spared.
 use Rattle.std.proofs.Common.{◌≡◌, ◌∙◌, refl, sym, ap, subst, arith, ℕ, zero, suc, ◌+◌, ◌<◌, ◌^◌, ◌==◌, ◌&&◌, ◌||◌, not, nat_lt, Bool, true, false, if◌then◌else◌, List, [], ◌∷◌, ◌++◌, ◌↔◌}
 use Rattle.std.specs.Prelude.{Option, Some, None, slice_get, length}
 use Rattle.std.specs.List.{list_any, list_all}
@@ -62,7 +62,7 @@ itself n = grind arith
 label_again : (k : ℕ) → label_of (record_of_label k) (group_of_label k) ≡ k
 label_again k = omega arith
 
--- the marks of a policy are among all
+-- The marks of a policy are among all marks.
 in_groups : (q : Mark → Bool) (models : List Entity) (m g i n : ℕ) (over : List Alteration) (rows : List Row) (groups : List FieldGroup) (group : FieldGroup)
     → n ≡ g + i → slice_get groups i ≡ Some group → list_any q (groups_marks models m g over rows groups) ≡ false → list_any q (policy_marks models m n over rows group) ≡ false
 in_groups q models m g zero n over rows [] group at e h = absurd cc
@@ -104,7 +104,7 @@ in_entity q models m g over rows None group is e h = let wrong : false ≡ true 
 in_entity q models m g over rows (Some entity) group is e h =
     in_groups q models m 0 g g over rows entity.groups group (omega arith) e (in_models q models 0 m m over rows models entity (omega arith) is h)
 
--- a label that no mark of its group's own is of is of no replaced record
+-- If no mark of a label's own group covers it, the label's record isn't replaced.
 own_if : (q : Mark → Bool) (k id : ℕ) (b : Bool) → q (mark.One k) ≡ true → id ≡ record_of_label k → (model_of_id id == model_of_id (record_of_label k)) ≡ b
     → list_any q (own_mark (id_where b id) (group_of_label k)) ≡ false → true ≡ false
 own_if q k id true is same e h =
@@ -133,7 +133,7 @@ same_dependency (dependency.Found s m f) (dependency.Found t n g) e =
 same_dependency dependency.Any dependency.Any e = refl
 same_dependency x y e = absurd cc
 
--- the labels of records that an alternative leads to
+-- The labels of the records that a row leads to.
 label_kept : (b : Bool) (g j : ℕ) (r : Row) (rows : List Row) → b ≡ true → (label_of r.id g == j) ≡ true → shown_by (row_labels g (if b then r ∷ rows else rows)) j ≡ true
 label_kept true g j r rows e h = rw h refl
 label_kept false g j r rows e h = absurd cc
@@ -153,7 +153,7 @@ holder_shown p q g id (r ∷ rows) is h =
     (ap (λ i. label_of i g == label_of id g) (sym same) ∙ itself (label_of id g)))
     (λ e. label_later (p r.id) (label_of r.id g == label_of id g) g (label_of id g) r (with_id p rows) refl (holder_shown p q g id rows is e)) h
 
--- the marks of what a policy depends on
+-- The marks of what a policy depends on.
 module _ (viewer : Option ℕ) (k : ℕ) (over : List Alteration) (among : RowsAltered) (small : record_of_label k < 2 ^ 124) where
   abbrev model : ℕ
   model = model_of_id (record_of_label k)
@@ -283,7 +283,7 @@ module _ (viewer : Option ℕ) (k : ℕ) (over : List Alteration) (among : RowsA
       let later = each_not xs parts.1 in
       rw (first_not x xs (comes_again x xs) refl parts.0 later) later
 
--- all marks
+-- All marks.
 abbrev pub all_marks : Application → List Alteration → List Row → List Mark
 all_marks app over rows = models_marks app.models 0 over rows app.models
 
@@ -309,7 +309,7 @@ own_spared app over tables rows k (Some g) is some h =
     not_of (is_altered over (record_of_label k))
     (not_own (is_one tables k) k over (itself k) (none_parts (is_one tables k) (own_marks m n over) (each_dependency_marks m n over rows (dependencies app.models g.policy)) all).0)
 
--- from an invalidation to marks
+-- From an invalidation to marks.
 or_join : (a b c d : Bool) → d ≡ (b || c) → (a || d) ≡ ((a || b) || c)
 or_join true b c d e = refl
 or_join false b c d e = e
@@ -343,7 +343,7 @@ groups_are tables viewer k (mark.Only m g v ∷ marks) a b =
     let parts = or_parts (is_in_group (affected_group m g (Some v)) k && is_for (audience_of (Some v)) viewer) (list_any (λ (g : AffectedGroup). is_in_group g k && is_for g.viewer viewer) (marked_groups marks)) b in
     rw parts.0 (groups_are tables viewer k marks a parts.1)
 
--- a record past the end stands nowhere
+-- A record past the end doesn't exist.
 stands_if : (u : ℕ → Bool) (h b : Bool) (id : ℕ) (r : Row) (rows : List Row) → (r.id == id) ≡ b → b ≡ false → stands (record_with id (rows_at u rows)) ≡ false
     → stands (record_with id (if h then record { id = r.id; cells = r.cells } ∷ rows_at u rows else rows_at u rows)) ≡ false
 stands_if u true true id r rows e f h = absurd cc
@@ -361,7 +361,7 @@ and_false : (a : Bool) → (a && false) ≡ false
 and_false true = refl
 and_false false = refl
 
--- what an invalidation of the marks covers
+-- What an invalidation of the marks covers.
 module _ (app : Application) (s : State) (over : List Alteration) (sound : IsSound s) (own : AreOwn over) (placed : ArePlaced over (length s.tables)) where
   abbrev among : RowsAltered
   among = rows_altered s.tables over

@@ -1,4 +1,5 @@
--- Tables in which records are replaced: what stays is the same, and what is found is found among the replaced.
+-- Tables in which records are replaced. What stays is the same, and what is found is found among
+-- the replaced records.
 use Rattle.std.proofs.Common.{◌≡◌, ◌∙◌, refl, sym, ap, subst, arith, ℕ, zero, suc, ◌+◌, ◌<◌, ◌^◌, ◌==◌, ◌&&◌, ◌||◌, not, nat_lt, Bool, true, false, if◌then◌else◌, List, [], ◌∷◌, ◌++◌, append-nil}
 use Rattle.std.specs.Prelude.{Option, map, slice_get}
 use Rattle.std.specs.List.{AllByRecursion, list_any}
@@ -21,7 +22,7 @@ use Rattle.jac_plain.specs.Records.{with_ids}
 use Rattle.jac_index_choice.proofs.Finding.{rows_at_with_id}
 use Rattle.jac_policy_deps.specs.Altered.{is_altered, is_outside, alternatives_altered, referred_by, row_refers}
 
--- rows that are picked twice, in two parts, and by a test that fails for some
+-- Rows that are picked twice, in two parts, by a test that fails for some.
 picked_if : (b c : Bool) (r : Row) (xs ys : List Row) (test : ℕ → Bool) → test r.id ≡ c → with_id test xs ≡ ys
     → with_id test (if b then r ∷ xs else xs) ≡ (if b && c then r ∷ ys else ys)
 picked_if true true r xs ys test e h = rw (e, h) refl
@@ -101,7 +102,7 @@ placed_if_ordered false id new rows own ordered = ordered
 itself : (n : ℕ) → (n == n) ≡ true
 itself n = grind arith
 
--- none of the replaced records passes the test
+-- None of the replaced records passes the test.
 abbrev Misses : (ℕ → Bool) → List Alteration → Type 0
 Misses test over = (id : ℕ) → is_altered over id ≡ true → test id ≡ false
 
@@ -129,12 +130,12 @@ tables_same u over m (t ∷ tables) own rising =
     ∙ rows_at_with_id u (is_outside over) t in
     rw (here, tables_same u over (m + 1) tables own rising.1) refl
 
--- under each assignment the records that stay are the same
+-- The records that stay are the same under each assignment.
 pub stay_same : (u : ℕ → Bool) (over : List Alteration) (tables : List (List Row)) → AreOwn over → AreTables tables
     → map (with_ids (is_outside over)) (map (rows_at u) (overlaid over tables)) ≡ map (with_ids (is_outside over)) (map (rows_at u) tables)
 stay_same u over tables own rising = tables_same u over 0 tables own rising
 
--- the rows of a model in a sound state
+-- The rows of a model in a sound state.
 abbrev pub OfModel : ℕ → List Row → Type 0
 OfModel m rows = AllByRecursion (λ (r : Row). model_of_id r.id ≡ m) rows
 
@@ -172,7 +173,7 @@ pub or_cases : (P : Type 0) (b c : Bool) → (b ≡ true → P) → (c ≡ true 
 or_cases P true c f g h = f refl
 or_cases P false c f g h = g h
 
--- a replaced record's model has a replaced record
+-- The model of a replaced record has a replaced record.
 pub altered_alters : (over : List Alteration) (id : ℕ) → is_altered over id ≡ true → alters (model_of_id id) over ≡ true
 altered_alters [] id h = absurd cc
 altered_alters (a ∷ more) id h =
@@ -181,7 +182,7 @@ altered_alters (a ∷ more) id h =
     or_left (model_of_id a.id == model_of_id id) (alters (model_of_id id) more) (ap (λ n. model_of_id n == model_of_id id) same ∙ itself (model_of_id id)))
     (λ e. or_right (model_of_id a.id == model_of_id id) (alters (model_of_id id) more) (altered_alters more id e)) h
 
--- what some of the rows has, some of more have, or of others
+-- If some of the rows pass the test, some of the longer list do.
 pub any_left : (q : Row → Bool) (xs ys : List Row) → list_any q xs ≡ true → list_any q (xs ++ ys) ≡ true
 any_left q [] ys h = absurd cc
 any_left q (x ∷ xs) ys h =
@@ -221,7 +222,8 @@ any_placed_if P q true id new rows f g h =
     (λ e. f (any_picked q (λ i. nat_lt id i) rows e)) h
 any_placed_if P q false id new rows f g h = f h
 
--- some replaced row has it, or some that was there
+-- If some row after the replacement passes the test, a replaced row does, or a row that was there
+-- before.
 any_altered : (P : Type 0) (q : Row → Bool) (tables : List (List Row)) (m : ℕ) (over : List Alteration) (rows : List Row)
     → (list_any q rows ≡ true → P) → (list_any q (alternatives_altered tables over) ≡ true → P) → list_any q (altered_rows m over rows) ≡ true → P
 any_altered P q tables m [] rows f g h = f h
@@ -247,7 +249,7 @@ any_alternatives q id (r ∷ rows) h =
     (λ e. first_if q (r.id == id) r (alternatives id rows) e)
     (λ e. later_if q (r.id == id) r (alternatives id rows) (any_alternatives q id rows e)) h
 
--- among the replaced rows are those of each replaced record as it was
+-- The rows of each replaced record before the replacement are among the replaced rows.
 any_named : (q : Row → Bool) (tables : List (List Row)) (over : List Alteration) (id : ℕ) → is_altered over id ≡ true
     → list_any q (alternatives id (rows_of tables (model_of_id id))) ≡ true → list_any q (alternatives_altered tables over) ≡ true
 any_named q tables [] id is h = absurd cc
@@ -259,7 +261,7 @@ any_named q tables (a ∷ more) id is h =
     any_left q old rest (subst (λ i. list_any q (alternatives i (rows_of tables (model_of_id i))) ≡ true) same h))
     (λ e. any_right q old rest (any_right q a.rows (alternatives_altered tables more) (any_named q tables more id e h))) is
 
--- the model of a record of which there is a row
+-- The model of a record that has a row.
 any_model : (q : Row → Bool) (m id : ℕ) (rows : List Row) → OfModel m rows → list_any (λ r. (r.id == id) && q r) rows ≡ true → model_of_id id ≡ m
 any_model q m id [] all h = absurd cc
 any_model q m id (r ∷ rows) all h =
@@ -287,8 +289,8 @@ altered_model m (a ∷ more) rows own all =
     altered_model m more (if model_of_id a.id == m then placed_rows a.id a.rows rows else rows) own.1
     (placed_if_model m a.id (model_of_id a.id == m) a.rows rows refl own.0 all)
 
--- a row of a replaced record that row_refers, in the table before and after, is among the replaced
--- rows
+-- A row of a replaced record that passes `row_refers`, in the table before or after, is among the
+-- replaced rows.
 abbrev pub cell_refers : ℕ → (Option (Option ℕ) → Bool) → Row → Bool
 cell_refers f x r = x (referred_by (slice_get r.cells f))
 

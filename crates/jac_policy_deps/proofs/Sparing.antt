@@ -1,4 +1,4 @@
--- Labels that are spared by replaced records are allowed where they were.
+-- Labels that replaced records spare are allowed as before.
 use Rattle.std.proofs.Common.{◌≡◌, ◌∙◌, refl, sym, ap, subst, arith, ℕ, ◌==◌, ◌&&◌, ◌||◌, not, Bool, true, false, if◌then◌else◌, List, [], ◌∷◌, ◌↔◌}
 use Rattle.std.specs.Prelude.{Option, Some, None, map, slice_get, unwrap_or, length}
 use Rattle.std.specs.List.{list_any, list_all}
@@ -40,7 +40,7 @@ use Rattle.jac_policy_deps.specs.Altered.{state_over, is_altered, is_outside, is
 use Rattle.jac_policy_deps.proofs.Clearing.{same_answers, rows_cleared, record_stays}
 use Rattle.jac_policy_deps.proofs.Replaced.{OfModel, stay_same, of_model, altered_alters, or_cases, cell_refers, found_before, found_behind}
 
--- a cell that reads as a reference refers to it
+-- A cell that reads as a reference refers to the same record.
 refers_is : (c : Option Value) (k : Kind) (x : Option ℕ) → unwrap_or c (default_value k) ≡ value.Ref x → is_to x (referred_by c) ≡ true
 refers_is None kind.Int x e = absurd cc
 refers_is None kind.Text x e = absurd cc
@@ -65,7 +65,7 @@ both_or true true c p q = refl
 both_or true false c p q = absurd cc
 both_or false b c p q = absurd cc
 
--- a record whose field has a value in one world has a row whose cell may have it
+-- If a record's field has a value in one world, the record has a row with a cell that may have it.
 read_if : (h s : Bool) (r : Row) (u : ℕ → Bool) (rows : List Row) (f : ℕ) (k : Kind) (v : Value) (q : Option Value → Bool) (id : ℕ) → (r.id == id) ≡ s
     → ((c : Option Value) → equality.ghosts.eq (unwrap_or c (default_value k)) v ≡ true → q c ≡ true)
     → (stands (record_with id (rows_at u rows)) ≡ true → equality.ghosts.eq (cell_of (record_with id (rows_at u rows)) f (default_value k)) v ≡ true
@@ -91,7 +91,7 @@ read_cell : (u : ℕ → Bool) (rows : List Row) (f : ℕ) (k : Kind) (v : Value
 read_cell u [] f k v q id may stood e = absurd cc
 read_cell u (r ∷ rows) f k v q id may stood e = read_if (holds u r.guard) (r.id == id) r u rows f k v q id refl may (read_cell u rows f k v q id may) stood e
 
--- a record whose field refers to one in some world has an alternative that does
+-- If a record's field refers to another record in some world, some row does.
 is_itself : (v : Value) (y : ℕ) → v ≡ value.Ref (Some y) → equality.ghosts.eq v (value.Ref (Some y)) ≡ true
 is_itself v y e = rw e (grind arith)
 
@@ -115,7 +115,7 @@ own_holds u rows f k y id e =
     read_cell u rows f k (value.Ref (Some y)) (is_cell (value.Ref (Some y))) id (has_it k y)
     (stands_there (record_with id (rows_at u rows)) f k y e) (is_itself (cell_of (record_with id (rows_at u rows)) f (default_value k)) y e)
 
--- what a cell that has the value refers to, the record may
+-- A record may refer to whatever a cell with the value refers to.
 linked_is : (tables : List (List Row)) (m f this : ℕ) (v : Value) (k : Kind) (c : Option Value)
     → ((y : ℕ) → v ≡ value.Ref (Some y) → holds_cell f (value.Ref (Some y)) (rows_of tables m) this ≡ true)
     → equality.ghosts.eq (unwrap_or c (default_value k)) v ≡ true → is_linked tables m f this (referred_by c) ≡ true
@@ -126,7 +126,7 @@ linked_is tables m f this v k (Some (value.Int i)) holds e = refl
 linked_is tables m f this v k (Some (value.Text t)) holds e = refl
 linked_is tables m f this v k (Some (value.Bool b)) holds e = refl
 
--- a record that it refers to and that is replaced is seen
+-- A replaced record that this record refers to is found.
 link_altered : (tables : List (List Row)) (m f this : ℕ) (over : List Alteration) (y : ℕ) → holds_cell f (value.Ref (Some y)) (rows_of tables m) this ≡ true
     → is_altered over y ≡ true → is_link_altered tables m f this over ≡ true
 link_altered tables m f this [] y holds is = absurd cc
@@ -144,7 +144,7 @@ clear_if over (value.Int i) f = refl
 clear_if over (value.Text t) f = refl
 clear_if over (value.Bool b) f = refl
 
--- rows of which none is replaced
+-- Rows of records that aren't replaced.
 not_altered : (b : Bool) → (b ≡ true → false ≡ true) → not b ≡ true
 not_altered true f = absurd (bad (f refl))
   where
@@ -163,7 +163,7 @@ all_stay over m (r ∷ rows) all none =
     (not_altered (is_altered over r.id) (λ h. sym none ∙ ap (λ n. alters n over) (sym all.0) ∙ altered_alters over r.id h))
     (all_stay over m rows all.1 none)
 
--- the states before and after have the same records that stay
+-- The states before and after have the same records that stay.
 same_record : (u : ℕ → Bool) (s : State) (over : List Alteration) → IsSound s → AreOwn over → (m id : ℕ) → is_outside over id ≡ true
     → record_with id (rows_of (map (rows_at u) (overlaid over s.tables)) m) ≡ record_with id (rows_of (map (rows_at u) s.tables) m)
 same_record u s over sound own m id stay =
@@ -175,7 +175,7 @@ same_record u s over sound own m id stay =
     ∙ ap (record_with id) (rows_cleared (is_outside over) before m)
     ∙ record_stays (is_outside over) id (rows_of before m) stay
 
--- what a world's tables are to be for the test
+-- What the test requires of a world's tables.
 pub record AreTested (over : List Alteration) (among : RowsAltered) (u : ℕ → Bool) (this : ℕ) (tables : List (List Row)) : Type 0 where
   pub whole : (m : ℕ) → alters m over ≡ false → with_id (is_outside over) (rows_of tables m) ≡ rows_of tables m
   pub found : (m f : ℕ) (x : Option (Option ℕ) → Bool) (id : ℕ) → is_altered over id ≡ true
@@ -272,7 +272,7 @@ module _ (models : List Entity) (this : ℕ) (viewer : Option ℕ) (u : ℕ → 
     any = λ h id. stays_any over id h;
   }
 
--- the states before and after show the same of records that stay
+-- The states before and after show the same for records that stay.
 module _ (app : Application) (s : State) (over : List Alteration) (sound : IsSound s) (own : AreOwn over) (placed : ArePlaced over (length s.tables)) where
   pub same_has : (u : ℕ → Bool) (id : ℕ) → is_outside over id ≡ true → has_id (project_at u (state_over over s)) id ≡ has_id (project_at u s) id
   same_has u id stay = ap stands (same_record u s over sound own (model_of_id id) id stay)

@@ -1,4 +1,4 @@
--- What a policy depends on, asked of replaced records: as they were and as they are.
+-- Whether a policy depends on replaced records, as they were before or as they are after.
 use Rattle.std.specs.Prelude.{ℕ, Bool, true, false, ◌&&◌, ◌||◌, ◌==◌, not, List, [], ◌∷◌, ◌++◌, slice_get, Option, Some, None}
 use Rattle.std.specs.List.{list_any, list_all}
 use Rattle.jac_value.specs.declared.value.Value.{Value}
@@ -20,11 +20,11 @@ use Rattle.jac_policy_deps.specs.declared.dependency.Referent.{Referent}
 use Rattle.jac_policy_deps.specs.declared.dependency.Referent.TheVariants as referent
 use Rattle.jac_policy_deps.specs.Dependencies.{dependencies}
 
--- the state with the replaced records
+-- The state after the replacement of the records.
 abbrev pub state_over : List Alteration → State → State
 state_over over s = record s { tables = overlaid over s.tables }
 
--- the record is replaced
+-- The record is replaced.
 abbrev pub is_altered : List Alteration → ℕ → Bool
 is_altered [] id = false
 is_altered (a ∷ more) id = a.id == id || is_altered more id
@@ -36,14 +36,14 @@ abbrev pub is_viewer_altered : List Alteration → Option ℕ → Bool
 is_viewer_altered over None = false
 is_viewer_altered over (Some id) = is_altered over id
 
--- the alternatives of the replaced records, as they were and as they are
+-- The rows of the replaced records, before and after the replacement.
 abbrev pub alternatives_altered : List (List Row) → List Alteration → List Row
 alternatives_altered tables [] = []
 alternatives_altered tables (a ∷ more) =
     alternatives a.id (rows_of tables (model_of_id a.id))
     ++ (a.rows ++ alternatives_altered tables more)
 
--- these, and the tables in which the records are replaced
+-- The rows of the replaced records, and the tables in which the records are replaced.
 pub record RowsAltered : Type 0 where
   pub tables : List (List Row)
   pub rows : List Row
@@ -54,7 +54,7 @@ rows_altered tables over = record {
   rows = alternatives_altered tables over;
 }
 
--- what a cell refers to, which a missing one may do as one that is none
+-- What a cell refers to, if it may be a reference. A missing cell counts as an empty reference.
 abbrev pub referred_by : Option Value → Option (Option ℕ)
 referred_by None = Some None
 referred_by (Some (value.Ref id)) = Some id
@@ -66,26 +66,25 @@ abbrev pub is_to : Option ℕ → Option (Option ℕ) → Bool
 is_to id None = false
 is_to id (Some other) = is_same_viewer other id
 
--- the row is one of the model at this place, and what its field at a place refers to passes the
--- test
+-- The row belongs to the model at a place, and what its field at a place refers to passes the test.
 abbrev pub row_refers : ℕ → ℕ → (Option (Option ℕ) → Bool) → Row → Bool
 row_refers m f test r = (model_of_id r.id == m) && test (referred_by (slice_get r.cells f))
 
--- the field at a place of the model's record of this id may refer to what a cell does: where that
--- is a record, one of its alternatives does
+-- The field `f` of the record `this` may refer to what a cell refers to. If the cell refers to a
+-- record, some row of `this` refers to the same record.
 abbrev pub is_linked : List (List Row) → ℕ → ℕ → ℕ → Option (Option ℕ) → Bool
 is_linked tables m f this (Some (Some id)) =
     holds_cell f (value.Ref (Some id)) (rows_of tables m) this
 is_linked tables m f this (Some None) = true
 is_linked tables m f this None = true
 
--- a record is found by what a cell of it refers to
+-- The referent finds a record by a cell that refers to `x`.
 abbrev pub is_found : List (List Row) → ℕ → Option ℕ → Referent → Option (Option ℕ) → Bool
 is_found tables this viewer referent.This x = is_to (Some this) x
 is_found tables this viewer (referent.Field m f) x = is_linked tables m f this x
 is_found tables this viewer referent.Viewer x = is_to viewer x
 
--- the field may refer to a replaced record
+-- The field may refer to a replaced record.
 abbrev pub is_link_altered : List (List Row) → ℕ → ℕ → ℕ → List Alteration → Bool
 is_link_altered tables m f this [] = false
 is_link_altered tables m f this (a ∷ more) =
@@ -100,7 +99,7 @@ abbrev pub alters_none : List Alteration → Bool
 alters_none [] = true
 alters_none (a ∷ more) = false
 
--- no replaced record is among what a policy of the record depends on for the viewer
+-- No replaced record is in this dependency of a policy, for the record `this` and the viewer.
 abbrev pub test_of : List Alteration → RowsAltered → ℕ → Option ℕ → Dependency → Bool
 test_of over among this viewer (dependency.One s) =
     not (is_one_altered over among.tables this viewer s)
@@ -113,7 +112,7 @@ abbrev pub group_dependencies : List Entity → Option FieldGroup → List Depen
 group_dependencies models None = []
 group_dependencies models (Some g) = dependencies models g.policy
 
--- the label's record isn't replaced, and none is that its policy depends on
+-- The label's record isn't replaced, and its policy depends on no replaced record.
 abbrev pub is_spared : Application → List Alteration → RowsAltered → Option ℕ → ℕ → Bool
 is_spared app over among viewer k =
     is_outside over (record_of_label k) && list_all (test_of over among (record_of_label k) viewer)

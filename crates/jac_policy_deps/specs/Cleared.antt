@@ -1,5 +1,4 @@
--- A world without some records, and a test that says whether any of them is among what a policy
--- depends on.
+-- A world without some records, and a test whether a policy depends on any of them.
 use Rattle.std.specs.Prelude.{◌≡◌, ℕ, Bool, true, map, Some}
 use Rattle.jac_value.specs.declared.value.Value.{Value}
 use Rattle.jac_value.specs.declared.value.Value.TheVariants as value
@@ -15,16 +14,16 @@ use Rattle.jac_policy_deps.specs.declared.dependency.Dependency.TheVariants as d
 use Rattle.jac_policy_deps.specs.declared.dependency.Referent.{Referent}
 use Rattle.jac_policy_deps.specs.declared.dependency.Referent.TheVariants as referent
 
--- the world with the records alone that stay
+-- The world with only the records that stay.
 abbrev pub cleared_world : (ℕ → Bool) → World → World
 cleared_world stays w = record w { tables = map (with_ids stays) w.tables }
 
--- a reference to a record that stays, or none
+-- The value doesn't refer to a record that is left out.
 abbrev pub is_clear : (ℕ → Bool) → Value → Bool
 is_clear stays (value.Ref (Some id)) = stays id
 is_clear stays v = true
 
--- the reference that a policy reads or finds records by, or what a field has in its place
+-- The value that names the referent: a reference, or what the field has in its place.
 abbrev pub referent_in : World → Referent → Value
 referent_in w referent.This = value.Ref w.this
 referent_in w (referent.Field m f) = cell_of (referred_record (value.Ref w.this)
@@ -32,13 +31,13 @@ referent_in w (referent.Field m f) = cell_of (referred_record (value.Ref w.this)
     (default_value (kind_at w.models (fields_at w.models m) f))
 referent_in w referent.Viewer = value.Ref w.viewer
 
--- what the field at a place reads as, of the record of an id
+-- The value that the field at a place reads as, for the record of an id.
 abbrev pub field_in : World → ℕ → ℕ → ℕ → Value
 field_in w m f id = cell_of (record_with id (rows_of w.tables m)) f
     (default_value (kind_at w.models (fields_at w.models m) f))
 
--- the record itself stays; and where the test is passed, so does the one that is read, each of the
--- table, each that is found, or any
+-- The policy's own record stays. If a dependency passes the test, its records stay too: the
+-- referent's record, each record of the table, each record that is found, or any record.
 pub record IsTest (stays : ℕ → Bool) (test : Dependency → Bool) (w : World) : Type 0 where
   pub own : is_clear stays (value.Ref w.this) ≡ true
   pub one : (s : Referent) → test (dependency.One s) ≡ true → is_clear stays (referent_in w s) ≡

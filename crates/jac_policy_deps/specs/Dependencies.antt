@@ -1,4 +1,4 @@
--- What the value of a policy depends on, told by its text.
+-- What the value of a policy depends on, derived from its text.
 use Rattle.std.specs.Prelude.{ℕ, ◌==◌, Bool, true, false, ◌&&◌, if◌then◌else◌, List, [], ◌∷◌, ◌++◌, Option, Some, None, unwrap_or}
 use Rattle.std.specs.Option.{option_to_list}
 use Rattle.jac_value.specs.declared.value.Kind.{Kind}
@@ -31,7 +31,7 @@ abbrev pub model_referent : List Entity → Option ℕ → List ℕ → Option R
 model_referent models None f = None
 model_referent models (Some m) f = field_referent models m (field_place (fields_at models m) f)
 
--- a field that is read of the record itself, where it is a reference
+-- The referent of a field of the policy's own record, if the field is a reference.
 abbrev pub own_referent : List Entity → List ℕ → List ℕ → Expression → Option Referent
 own_referent models m f Expression.this = model_referent models (model_place models m) f
 own_referent models m f e = None
@@ -40,8 +40,8 @@ abbrev pub linked_referent : List Entity → Expression → Option Referent
 linked_referent models (Expression.get m f e) = own_referent models m f e
 linked_referent models e = None
 
--- which record an expression names: the record itself, the viewer's, or the one that a field of the
--- record itself refers to
+-- The record that an expression names: the policy's own record, the viewer's record, or the record
+-- that a field of the own record refers to.
 abbrev pub named_referent : List Entity → Expression → Option Referent
 named_referent models Expression.this = Some referent.This
 named_referent models Expression.viewer = Some referent.Viewer
@@ -69,8 +69,8 @@ abbrev pub asked_field : Bool → Option (List ℕ) → Option (List ℕ)
 asked_field true field = field
 asked_field false field = None
 
--- the first operand of nested `and`s that asks that a field of the record of this name be whom it
--- is found by
+-- The first operand of nested `and`s that equates a field of the record of this name with the
+-- referent gives this field.
 abbrev pub found_field : List Entity → Referent → List ℕ → List ℕ → Expression → Option (List ℕ)
 found_field models s m x (Expression.two op.And a b) =
     one_or_other (found_field models s m x a) (found_field models s m x b)
@@ -82,8 +82,8 @@ abbrev pub asked_referent : Option (List ℕ) → Option Referent → Option Ref
 asked_referent None s = None
 asked_referent (Some field) s = s
 
--- the first of these operands that asks that such a field be what a field of the record itself
--- refers to: that one
+-- The first operand of nested `and`s that equates a field of the record of this name with a field
+-- of the policy's own record gives the latter.
 abbrev pub found_link : List Entity → List ℕ → List ℕ → Expression → Option Referent
 found_link models m x (Expression.two op.And a b) =
     one_or_other (found_link models m x a) (found_link models m x b)
@@ -100,7 +100,8 @@ dependency_found_in models s m None = None
 dependency_found_in models s m (Some name) = dependency_found_at s m
     (field_place (fields_at models m) name)
 
--- the records of a binder are found by whom the condition asks for, where it does
+-- The records of a binder that the referent finds, if the condition equates a field of them with
+-- it.
 abbrev pub dependency_found_by : List Entity → Referent → ℕ → Binder → Expression → Option
     Dependency
 dependency_found_by models s m b c = dependency_found_in models s m
@@ -111,8 +112,8 @@ abbrev pub dependency_linked_by : List Entity → Option Referent → ℕ → Bi
 dependency_linked_by models None m b c = None
 dependency_linked_by models (Some s) m b c = dependency_found_by models s m b c
 
--- by the record itself, or else by what a field of it refers to, or else by the viewer, where no
--- later binder has the name
+-- The records that the policy's own record finds, or else the record that a field of it refers to,
+-- or else the viewer. None if a later binder has the same name.
 abbrev pub found_dependency : List Entity → ℕ → Binder → List Binder → Expression → Option
     Dependency
 found_dependency models m b later c =
@@ -125,7 +126,8 @@ abbrev pub table_dependency : Option ℕ → Option Dependency
 table_dependency None = None
 table_dependency (Some m) = Some (dependency.Table m)
 
--- which records of the model at a place a binder goes through: those that are found, or else all
+-- The records that a binder of the model at a place goes through: those that are found, or else
+-- all.
 abbrev pub records_dependency : List Entity → Option ℕ → Binder → List Binder → Expression → Option
     Dependency
 records_dependency models None b later c = None
@@ -136,7 +138,7 @@ abbrev pub binder_dependency : List Entity → Binder → List Binder → Expres
 binder_dependency models b later c = records_dependency models (model_place models b.model) b later
     c
 
--- those of all binders of a query
+-- The records that all binders of a query go through.
 abbrev pub binder_dependencies : List Entity → List Binder → Expression → List Dependency
 binder_dependencies models [] c = []
 binder_dependencies models (b ∷ later) c =
@@ -146,8 +148,8 @@ abbrev pub one_dependency : Option Referent → Option Dependency
 one_dependency None = None
 one_dependency (Some s) = Some (dependency.One s)
 
--- where a field is read of the record that the expression names: the record itself and those of
--- binders are told of elsewhere, and a literal names none
+-- What reading a field depends on. The policy's own record and the records of binders are covered
+-- elsewhere, and a literal names no record.
 abbrev pub read_dependency : List Entity → List ℕ → Expression → Option Dependency
 read_dependency models m Expression.this = None
 read_dependency models m (Expression.name x) = None
@@ -159,7 +161,7 @@ read_dependency models m e =
     one_or_other (one_dependency (named_referent models e)) (table_dependency
     (model_place models m))
 
--- where it is asked whether that record is live
+-- What the question whether a record is live depends on.
 abbrev pub live_dependency : List Entity → Expression → Option Dependency
 live_dependency models Expression.this = None
 live_dependency models (Expression.name x) = None
@@ -171,7 +173,7 @@ live_dependency models e = Some (unwrap_or (one_dependency (named_referent model
     dependency.Any)
 
 abbrev mutual
-  -- what the value of an expression depends on
+  -- What the value of an expression depends on.
   pub dependencies : List Entity → Expression → List Dependency
   dependencies models (Expression.get m f e) = option_to_list (read_dependency models m e) ++
       dependencies models e

@@ -1,5 +1,5 @@
--- The marks that replaced records leave: the labels and the groups whose policies may answer
--- otherwise.
+-- The marks that replaced records leave: the labels and the groups whose policies may have another
+-- result.
 use Rattle.std.specs.Prelude.{ℕ, ◌+◌, ◌^◌, ◌&&◌, ◌==◌, nat_lt, Bool, true, false, if◌then◌else◌, List, [], ◌∷◌, ◌++◌, slice_get, Option, Some, None}
 use Rattle.std.specs.List.{list_any}
 use Rattle.jac_value.specs.declared.value.Value.TheVariants as value
@@ -28,7 +28,7 @@ abbrev pub audience_of : Option (Option ℕ) → Audience
 audience_of None = audience.Everybody
 audience_of (Some viewer) = audience.Only viewer
 
--- the group for one viewer, or for everybody
+-- The mark of the group for one viewer, or for every viewer.
 abbrev pub group_mark : ℕ → ℕ → Option (Option ℕ) → Mark
 group_mark m g None = mark.All m g
 group_mark m g (Some viewer) = mark.Only m g viewer
@@ -44,18 +44,18 @@ abbrev pub own_mark : Option ℕ → ℕ → List Mark
 own_mark (Some id) g = mark.One (label_of id g) ∷ []
 own_mark None g = []
 
--- the labels of this group of each replaced record of the model
+-- The marks of this group's labels of the replaced records of the model.
 abbrev pub own_marks : ℕ → ℕ → List Alteration → List Mark
 own_marks m g [] = []
 own_marks m g (a ∷ more) = own_mark (id_where (model_of_id a.id == m) a.id) g ++ own_marks m g more
 
--- the group, for each replaced record as a viewer
+-- The marks of the group for each replaced record as the viewer.
 abbrev pub viewer_marks : ℕ → ℕ → List Alteration → List Mark
 viewer_marks m g [] = []
 viewer_marks m g (a ∷ more) = group_mark m g (Some (Some a.id)) ∷ viewer_marks m g more
 
--- the label of this group of each record of the model of which an alternative refers to a record
--- by its own field; where that isn't known, the group
+-- The labels of this group for each record of the model that has a row that refers to the record by
+-- the field. If the field belongs to another model, the whole group.
 abbrev pub linked_mark : Bool → ℕ → ℕ → ℕ → ℕ → Mark
 linked_mark true m g f id = mark.Linked m g f id
 linked_mark false m g f id = group_mark m g None
@@ -65,13 +65,14 @@ link_mark m g n f (Some (Some id)) = linked_mark (n == m) m g f id ∷ []
 link_mark m g n f (Some None) = group_mark m g None ∷ []
 link_mark m g n f None = group_mark m g None ∷ []
 
--- those for each replaced record
+-- These marks for each replaced record.
 abbrev pub linked_marks : ℕ → ℕ → ℕ → ℕ → List Alteration → List Mark
 linked_marks m g n f [] = []
 linked_marks m g n f (a ∷ more) =
     link_mark m g n f (Some (Some a.id)) ++ linked_marks m g n f more
 
--- what a row's cell refers to is a record with a label, one that others refer to, or a viewer
+-- What a row's cell refers to is marked as the policy's own record, as a record that others refer
+-- to, or as a viewer.
 abbrev pub label_mark : ℕ → Option (Option ℕ) → List Mark
 label_mark g (Some (Some id)) = own_mark (id_where (nat_lt id (2 ^ 124)) id) g
 label_mark g (Some None) = []
@@ -90,7 +91,7 @@ abbrev pub row_mark : ℕ → ℕ → Referent → ℕ → ℕ → Row → List 
 row_mark m g s n f r = if model_of_id r.id == n
     then cell_mark m g s (referred_by (slice_get r.cells f)) else []
 
--- what the rows of the model at place n refer to by the field at place f
+-- The marks of what the rows of the model at place `n` refer to by the field at place `f`.
 abbrev pub found_marks : ℕ → ℕ → Referent → ℕ → ℕ → List Row → List Mark
 found_marks m g s n f [] = []
 found_marks m g s n f (r ∷ rows) = row_mark m g s n f r ++ found_marks m g s n f rows
@@ -108,8 +109,8 @@ one_marks m g over referent.This = own_marks m g over
 one_marks m g over (referent.Field n f) = linked_marks m g n f over
 one_marks m g over referent.Viewer = viewer_marks m g over
 
--- what replaced records mark where the policy of the group at place g of the model at place m rests
--- on this
+-- The marks of the replaced records for one dependency of the policy of the group at place `g` of
+-- the model at place `m`.
 abbrev pub dependency_marks : ℕ → ℕ → List Alteration → List Row → Dependency → List Mark
 dependency_marks m g over rows (dependency.One s) = one_marks m g over s
 dependency_marks m g over rows (dependency.Table n) = marks_if (alters n over) m g
@@ -124,30 +125,31 @@ is_same_dependency (dependency.Found s m f) (dependency.Found t n g) = is_same_r
 is_same_dependency dependency.Any dependency.Any = true
 is_same_dependency x y = false
 
--- the same comes again among these
+-- The same dependency comes again in the list.
 abbrev pub comes_again : Dependency → List Dependency → Bool
 comes_again x more = list_any (is_same_dependency x) more
 
--- what each marks, where it comes for the last time
+-- The marks of each dependency, where it comes for the last time.
 abbrev pub each_dependency_marks : ℕ → ℕ → List Alteration → List Row → List Dependency → List Mark
 each_dependency_marks m g over rows [] = []
 each_dependency_marks m g over rows (x ∷ more) =
     (if comes_again x more then [] else dependency_marks m g over rows x)
     ++ each_dependency_marks m g over rows more
 
--- the marks of a group: its labels of replaced records, and what its policy depends on
+-- The marks of a group: its labels of the replaced records, and the marks of what its policy
+-- depends on.
 abbrev pub policy_marks : List Entity → ℕ → ℕ → List Alteration → List Row → FieldGroup → List Mark
 policy_marks models m g over rows group =
     own_marks m g over ++ each_dependency_marks m g over rows (dependencies models group.policy)
 
--- those of a model's groups from one on
+-- The marks of a model's groups from the place `g` on.
 abbrev pub groups_marks : List Entity → ℕ → ℕ → List Alteration → List Row
     → List FieldGroup → List Mark
 groups_marks models m g over rows [] = []
 groups_marks models m g over rows (group ∷ more) =
     policy_marks models m g over rows group ++ groups_marks models m (g + 1) over rows more
 
--- those of models from one on
+-- The marks of the models from the place `m` on.
 abbrev pub models_marks : List Entity → ℕ → List Alteration → List Row → List Entity → List Mark
 models_marks models m over rows [] = []
 models_marks models m over rows (entity ∷ more) =
@@ -157,12 +159,12 @@ abbrev pub row_labels : ℕ → List Row → List ℕ
 row_labels g [] = []
 row_labels g (r ∷ rows) = label_of r.id g ∷ row_labels g rows
 
--- the labels of a group of the records of the model of which an alternative has the reference
+-- The labels of a group for the records of the model that have a row with the reference.
 abbrev pub holder_labels : List (List Row) → ℕ → ℕ → ℕ → ℕ → List ℕ
 holder_labels tables m g f id =
     row_labels g (holders f (value.Ref (Some id)) (rows_of tables m))
 
--- a mark is of the label, for the viewer; or of the label by itself
+-- The mark covers the label, for this viewer.
 abbrev pub marks_label : List (List Row) → Option ℕ → ℕ → Mark → Bool
 marks_label tables viewer k (mark.One j) = j == k
 marks_label tables viewer k (mark.Linked m g f id) = shown_by (holder_labels tables m g f id) k

@@ -1,24 +1,24 @@
-//! What a policy's answer depends on.
+//! What a policy's result depends on.
 
-/// Which record a policy reads, or by which it finds others: the record itself, whose policy it
-/// is, the one that a field of it refers to, or the viewer's.
+/// A record that a policy reads, or by which it finds other records: the policy's own record, the
+/// record that one of its fields refers to, or the viewer's record.
 #[derive(Clone, Copy, PartialEq, Eq)]
 pub enum Referent {
     This,
-    /// By the places of the model and of its field.
+    /// The place of the model and the place of its field.
     Field(u8, u8),
     Viewer,
 }
 
-/// What a policy's answer depends on beside the record itself.
+/// What a policy's result depends on, besides the policy's own record.
 #[derive(Clone, Copy, PartialEq, Eq)]
 pub enum Dependency {
     /// One record.
     One(Referent),
     /// The records of the model at this place.
     Table(u8),
-    /// Of the records of the model at a place those whose field at a place refers to whom it is
-    /// found by.
+    /// The records of a model that have a field that refers to the referent. The last two numbers
+    /// are the places of the model and of the field.
     Found(Referent, u8, u8),
     /// Any record.
     Any,

@@ -1,4 +1,4 @@
-//! What a work's replaced records may affect.
+//! What the replaced records of a `Work` may affect.
 ghost use Rattle.std.specs.Prelude.{◌≡◌, ◌++◌, ◌∷◌, ℕ, [], Option, IfOk, OnOk, IsErrOf, IsTrue};
 ghost use Rattle.jac_io.specs.Faults.{Rose};
 ghost use Rattle.jac_value.specs.Ids.{label_of};
@@ -23,9 +23,9 @@ use jac_value::{Id, Memory, Value, label_number};
 use jac_world::Label;
 use std::alloc::Global;
 
-/// What the replaced records of the work may affect: the labels of each, and those whose policies
-/// depend on one, as it was or as it is. A policy is told by its text, and costs nothing more where
-/// it is evaluated.
+/// The labels of the replaced records, and the labels whose policies depend on a replaced record,
+/// as it was or as it is. The dependencies are read from the text of a policy, so its evaluation
+/// costs no more.
 pub fn invalidation_of<K: Keeper>(work: &mut Work<'_, K>, app: &App) -> Result<Invalidation, Stop>
     requires attached { IsTrue (K.seen work.old.keeper.now).store.attached }
     requires sound { IsTrue (K.seen work.old.keeper.now).tells
@@ -47,7 +47,7 @@ pub fn invalidation_of<K: Keeper>(work: &mut Work<'_, K>, app: &App) -> Result<I
     Ok(invalidation)
 }
 
-// Adds the alternatives of the replaced records, as they were and as they are.
+// Adds the rows of the replaced records, before and after the replacement.
 fn add_altered<K: Keeper>(
     alloc: Global,
     keeper: &mut K,
@@ -78,7 +78,7 @@ fn push_rows(rows: &mut Vec<Row>, more: Rows) -> Result<(), Memory>
     Ok(())
 }
 
-// What records with these rows affect where they are replaced.
+// What the replacement of records with these rows may affect.
 fn invalidation_among<K: Keeper>(
     alloc: Global,
     keeper: &mut K,
@@ -108,8 +108,8 @@ fn invalidation_among<K: Keeper>(
     })
 }
 
-// Adds the labels of the marks: of records that refer to one those that do so in the keeper, which
-// aren't replaced or have marks of their own.
+// Adds the labels of the marks. For a `Linked` mark they are the labels of records that refer to
+// the record in the keeper. Such a record isn't replaced, or it has marks of its own.
 fn add_labels<K: Keeper>(
     alloc: Global,
     keeper: &mut K,
@@ -155,8 +155,8 @@ fn add_label<K: Keeper>(
     }
 }
 
-// Adds the labels of a group of the records of which an alternative refers by the field to the
-// record.
+// Adds the labels of a group for the records that have a row that refers to the record by the
+// field.
 fn add_linked<K: Keeper>(
     alloc: Global,
     keeper: &mut K,
@@ -188,7 +188,7 @@ fn push_labels(group: u8, rows: &[Row], labels: &mut Vec<Label>) -> Result<(), M
     Ok(())
 }
 
-// An id past the end has no labels, and no mark is of a group past the last one.
+// An id past the end has no labels, and no mark has a group past the last one.
 fn push_label(id: Id, group: u8, labels: &mut Vec<Label>) -> Result<(), Memory>
     ensures { OnOk result (labels.new.items ≡ labels.old.items ++ label_of id group ∷ []) }
 {

@@ -15,8 +15,8 @@ ghost use Rattle.jac_policy_deps.specs.declared.dependency.Dependency.{Dependenc
 ghost use Rattle.jac_policy_deps.specs.Dependencies.{dependencies};
 ghost use Rattle.jac_policy_deps.specs.Cleared.{cleared_world, IsTest};
 
-/// A law: an expression has the same value without some records, where a test says that none of
-/// what its value depends on is among them.
+/// A law: an expression has the same value in a world without some records if a test says, of each
+/// dependency of the expression, that none of them is in it.
 pub fn same_answers()
     ensures { (stays : ℕ → Bool) (test : One → Bool) (w : World) (e : Expression)
         → IsTest stays test w →
@@ -24,8 +24,8 @@ pub fn same_answers()
         e [] }
 {}
 
-/// A law: a label whose record isn't replaced, and whose policy depends on none that is, is allowed
-/// wherever it was.
+/// A law: if a label's record isn't replaced and its policy depends on no replaced record, the
+/// replacement doesn't change whether the label is allowed.
 pub fn spared_are_allowed()
     ensures { (app : Application) (s : State) (over : List Alteration) (viewer : Option ℕ) (k : ℕ)
         → IsSound s → AreApart over → ArePlaced over (length s.tables) →
@@ -34,7 +34,8 @@ pub fn spared_are_allowed()
         ≡ is_allowed app (project_at w s) viewer k }
 {}
 
-/// A law: a label whose record isn't replaced is live as it was.
+/// A law: if a label's record isn't replaced, the label is live after the replacement if and only
+/// if it was live before.
 pub fn others_are_live()
     ensures { (app : Application) (s : State) (over : List Alteration) (k : ℕ) → IsSound s
         → AreApart over → ArePlaced over (length s.tables) →

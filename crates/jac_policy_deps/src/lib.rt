@@ -1,5 +1,5 @@
-//! What the answers of policies depend on, told by their text; and the labels whose policies may
-//! answer otherwise after replaced records.
+//! Derives from a policy's text what its answer depends on. It finds which labels and viewers a
+//! change may affect.
 #![tactic(auto)]
 
 mod dependency;

@@ -17,14 +17,14 @@ use jac_value::{Id, Memory, Value, id_model, label_number};
 use jac_world::Label;
 use std::alloc::Global;
 
-// A group of a model, by their places.
+// A group of a model, by the places of both.
 #[derive(Clone, Copy)]
 pub(crate) struct Place {
     pub(crate) model: u8,
     pub(crate) group: u8,
 }
 
-// The marks of all models.
+// Adds the marks of all models.
 pub(crate) fn mark_models(
     alloc: Global,
     app: &App,
@@ -53,7 +53,7 @@ pub(crate) fn mark_models(
     Ok(())
 }
 
-// The marks of the groups of a model.
+// Adds the marks of the groups of a model.
 fn mark_groups(
     alloc: Global,
     app: &App,
@@ -77,7 +77,8 @@ fn mark_groups(
     Ok(())
 }
 
-// The marks of a group: its labels of replaced records, and what its policy depends on.
+// Adds the marks of a group: its labels of the replaced records, and the marks of what its policy
+// depends on.
 fn mark_policy(
     alloc: Global,
     app: &App,
@@ -109,7 +110,7 @@ fn mark_own(place: Place, over: &[Alteration], marks: &mut Vec<Mark>) -> Result<
     Ok(())
 }
 
-// An id past the end has no labels. No sound state has one.
+// An id from here on has no labels. No sound state has such an id.
 pub(crate) const IDS_END: u128 = 1 << 124;
 
 fn push_own(own: Option<Id>, group: u8, marks: &mut Vec<Mark>) -> Result<(), Memory>
@@ -154,7 +155,7 @@ fn mark_dependencies(
     Ok(())
 }
 
-// What it marks, where it comes for the last time.
+// Adds the marks of a dependency unless the same dependency comes again later.
 fn mark_last(
     place: Place,
     over: &[Alteration],
@@ -299,7 +300,7 @@ fn mark_viewers(place: Place, over: &[Alteration], marks: &mut Vec<Mark>) -> Res
     Ok(())
 }
 
-// The group for one viewer, or for everybody.
+// Adds the mark of the group for one viewer, or for every viewer.
 fn push_group(place: Place, viewer: Option<Option<Id>>, marks: &mut Vec<Mark>) -> Result<(), Memory>
     ensures { OnOk result (marks.new.items
         ≡ marks.old.items ++ group_mark place.model place.group viewer ∷ []) }
@@ -386,7 +387,7 @@ fn mark_row(
     }
 }
 
-// What a cell refers to, which a missing one may do as one that is none.
+// What a cell refers to, if it may be a reference. A missing cell counts as an empty reference.
 fn referred_by(cell: Option<&Value>) -> Option<Option<Id>>
     ensures { result ≡ referred_by (option_map (λ v. v.now) cell.entry) }
 {

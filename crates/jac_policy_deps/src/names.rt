@@ -36,7 +36,8 @@ pub(crate) fn is_same_referent(one: Referent, other: Referent) -> bool
     }
 }
 
-// The record itself, the viewer's, or the one that a field of the record itself refers to.
+// The policy's own record, the viewer's record, or the record that a field of the own record refers
+// to.
 pub(crate) fn named_referent(app: &App, e: &Expr) -> Option<Referent>
     ensures { result ≡ named_referent (application_of app.now).models (expression_of e.now) }
 {

@@ -1,4 +1,4 @@
-//! What the value of an expression depends on, told by its text.
+//! What the value of an expression depends on, read from its text.
 ghost use Rattle.std.specs.Prelude.{◌≡◌, ◌++◌, OnOk};
 ghost use Rattle.std.specs.Option.{option_to_list};
 ghost use Rattle.jac_lang.specs.Mirror.{application_of, binders_of, expression_of, expressions_of};
@@ -10,7 +10,7 @@ use crate::names::named_referent;
 use jac_lang::{App, Binders, Expr, Exprs, Query, model_of};
 use jac_value::{Memory, Txt};
 
-// Adds what the expression's value depends on.
+// Adds the dependencies of the expression's value.
 #[cycle(dependencies)]
 pub(crate) fn add_dependencies(app: &App, e: &Expr, out: &mut Vec<Dependency>) -> Result<(), Memory>
     ensures { OnOk result (out.new.items
@@ -79,7 +79,7 @@ fn add_query(app: &App, q: &Query, out: &mut Vec<Dependency>) -> Result<(), Memo
     add_dependencies(app, &q.cond, out)
 }
 
-// Adds which records each binder goes through.
+// Adds the records that each binder goes through.
 fn add_binders(
     app: &App,
     binders: &Binders,
