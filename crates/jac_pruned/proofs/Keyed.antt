@@ -27,7 +27,7 @@ without_keys : (key : List ℕ → Value) (tuples : List (List ℕ)) → map (λ
 without_keys key [] = refl
 without_keys key (ids ∷ tuples) = ap (λ l. ids ∷ l) (without_keys key tuples)
 
--- the tuples after their sorted keys
+-- The tuples, sorted by their keys.
 pub sorted-is : (down : Bool) (key : List ℕ → Value) (tuples : List (List ℕ)) (ps : List (List ℕ × Value)) → ps ≡ keyed_by key tuples →
     map (λ p. p.0) (sorted_by (key_less down) ps) ≡ sorted_tuples (value_less down) key tuples
 sorted-is down key tuples ps e =
@@ -35,7 +35,7 @@ sorted-is down key tuples ps e =
     ∙ ap (map (λ p. p.0)) (sorted-keyed (value_less down) key tuples)
     ∙ without_keys key (sorted_tuples (value_less down) key tuples)
 
--- one tuple more has its key
+-- One more tuple has its key.
 pub keyed-more : (key : List ℕ → Value) (done new : List (List ℕ × Value)) (ids : List ℕ) (k : Value) (left rest all : List (List ℕ)) →
     left ≡ ids ∷ rest → new ≡ done ++ (ids, k) ∷ [] → k ≡ key ids → done ++ keyed_by key left ≡ keyed_by key all → new ++ keyed_by key rest ≡ keyed_by key all
 keyed-more key done new ids k left rest all first pushed is so_far =

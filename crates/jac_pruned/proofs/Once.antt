@@ -19,7 +19,7 @@ pub id-order : (down : Bool) → IsStrictWeakOrder (id_less down)
 id-order false = ranks_by total-law (λ (p : ℕ × Value). p.1)
 id-order true = IsStrictWeakOrder-flip (id_less false) (ranks_by total-law (λ (p : ℕ × Value). p.1))
 
--- tuples of one id each
+-- Tuples of one id each.
 abbrev tupled : List (ℕ × Value) → List (List ℕ × Value)
 tupled [] = []
 tupled (p ∷ ps) = (p.0 ∷ [], p.1) ∷ tupled ps
@@ -51,7 +51,7 @@ keyed-tupled key of_tuple (j ∷ js) h =
     ap (λ v. (j ∷ [], v) ∷ tupled (keyed_each key js)) (sym (h j))
     ∙ ap (λ l. (j ∷ [], of_tuple (j ∷ [])) ∷ l) (keyed-tupled key of_tuple js h)
 
--- the ids after their sorted keys
+-- The ids, sorted by their keys.
 pub ids_sorted : (down : Bool) (key : ℕ → Value) (of_tuple : List ℕ → Value) (js : List ℕ) (ps : List (ℕ × Value)) → ((j : ℕ) → of_tuple (j ∷ []) ≡ key j) →
     ps ≡ keyed_each key js →
     lengthened_tuples [] (map (λ p. p.0) (sorted_by (id_less down) ps)) ≡ sorted_tuples (value_less down) of_tuple (lengthened_tuples [] js)
@@ -60,12 +60,12 @@ ids_sorted down key of_tuple js ps h is =
     ∙ ap (map (λ p. p.0)) (sorted-tupled down ps)
     ∙ sorted-is down of_tuple (lengthened_tuples [] js) (tupled ps) (ap tupled is ∙ keyed-tupled key of_tuple js h)
 
--- the field of a binder's record, by which its tuple is sorted
+-- The field of a binder's record by which its tuple is sorted.
 pub own_key : (w : World) (b : Binder) (name field : List ℕ) (j : ℕ) → same_text b.name name ≡ true →
     key_of w (b ∷ []) name field (j ∷ []) ≡ got w b.model field (value.Ref (Some j))
 own_key w b name field j same = rw same refl
 
--- one id more has its key
+-- One more id has its key.
 pub each_more : (key : ℕ → Value) (done new : List (ℕ × Value)) (j : ℕ) (k : Value) (left rest all : List ℕ) →
     left ≡ j ∷ rest → new ≡ done ++ (j, k) ∷ [] → k ≡ key j → done ++ keyed_each key left ≡ keyed_each key all → new ++ keyed_each key rest ≡ keyed_each key all
 each_more key done new j k left rest all first pushed is so_far =

@@ -1,4 +1,4 @@
--- What a local policy reads of a local state: rows whose guards name labels of its own record alone.
+-- What a local policy reads of a local state: rows whose guards name only labels of its own record.
 use Rattle.std.proofs.Common.{◌≡◌, refl, ap, sym, subst, ◌∙◌, ℕ, zero, suc, ◌+◌, ◌<◌, ◌==◌, Bool, true, false, not, ◌&&◌, ◌||◌, if◌then◌else◌, List, [], ◌∷◌, ◌++◌, length, get_or, Option, None, Some, slice_get, unwrap_or, Result, Ok, Err, ℤ, pos, arith}
 use Rattle.std.specs.Prelude.{⊤, IsSomeAnd, IfOk}
 use Rattle.std.specs.List.{list_all, AllByRecursion}
@@ -47,7 +47,7 @@ use Rattle.jac_shown_rows.proofs.Rows.{rows_of-project}
 use Rattle.jac_shown_rows.specs.Own.{is_of, IsOwn, is_own_pair, names_own, has_own_guard, is_own_row, are_own_rows, is_own_table, reads_own, stands_own, table_at, table_named}
 use Rattle.jac_pruned.specs.Locally.{are_own_tables, is_own_order, is_free_value, is_free_env, begins_free, IsLocally}
 
--- tests of all
+-- Tests of all elements.
 
 itself : (x : ℕ) → (x == x) ≡ true
 itself x = grind (arith, nat_tests)
@@ -60,7 +60,7 @@ all_found : (p : Row → Bool) (b : Bool) (f : ℕ) (v : Value) (rows : List Row
 all_found p true f v rows h = h
 all_found p false f v rows h = all_with_id p (holds_cell f v rows) rows h
 
--- what holds of all rows holds of those of the records that have the value
+-- What is true of all rows is true of the rows of the records that have the value.
 pub all_valued : (p : Row → Bool) (models : List Entity) (m : ℕ) (f : Option ℕ) (v : Value) (rows : List Row) → list_all p rows ≡ true → list_all p (rows_with_value models m f v rows) ≡ true
 all_valued p models m None v rows h = h
 all_valued p models m (Some f) v rows h = all_found p (equality.ghosts.eq (default_value (kind_at models (fields_at models m) f)) v) f v rows h
@@ -86,7 +86,7 @@ module _ (P : Row → Type 0) where
   each_wanted models m None rows a = a
   each_wanted models m (Some s) rows a = each_valued models m (field_place (fields_at models m) s.field) s.value rows a
 
--- guards
+-- Guards.
 
 guard_own : (this : Option ℕ) (g : List (ℕ × Bool)) → ((k : ℕ) → names g k ≡ true → is_of this (record_of_label k) ≡ true) → names_own this g ≡ true
 guard_own this [] h = refl
@@ -99,7 +99,7 @@ no_group [] zero none some = absurd cc
 no_group [] (suc g) none some = absurd cc
 no_group (x ∷ gs) g none some = absurd cc
 
--- the rows of a table of which each row is one of its model
+-- The rows of a table in which each row is one of its model.
 rows_made : (P : List Row → Type 0) (Q : ℕ → Row → Type 0) (from i : ℕ) (tables : List (List Row)) → AreTablesOf P Q from tables → AllByRecursion (Q (from + i)) (rows_of tables i)
 rows_made P Q from i [] a = tt
 rows_made P Q from zero (t ∷ ts) a = let here : from ≡ from + 0 = omega arith in subst (λ (m : ℕ). AllByRecursion (Q m) t) here a.1
@@ -119,7 +119,7 @@ module _ (app : Application) (s : State) (viewer : Option ℕ) (case : IsLocalCa
   rows_own id [] a = refl
   rows_own id (r ∷ rows) a = and_from (is_own_row (Some id) id r) (are_own_rows (Some id) id rows) (row_own id r a.0) (rows_own id rows a.1)
 
-  -- a record's rows have guards of its own labels
+  -- The guards of a record's rows name only its own labels.
   pub table_own : (id m : ℕ) → are_own_rows (Some id) id (rows_of s.tables m) ≡ true
   table_own id m = rows_own id (rows_of s.tables m) (case.state m)
 
@@ -144,7 +144,7 @@ module _ (app : Application) (s : State) (viewer : Option ℕ) (case : IsLocalCa
       let start : 0 + m ≡ m = omega arith in
       subst (λ (n : ℕ). AllByRecursion (Records n) (rows_of s.tables m)) start (rows_made _ Records 0 m s.tables case.good.1)
 
-  -- a model without groups has no guarded rows
+  -- A model without groups has no guarded rows.
   pub place_free : (this : Option ℕ) (place : Option ℕ) → is_free_place app.models place ≡ true → is_own_table this (table_at s.tables place) ≡ true
   place_free this None free = refl
   place_free this (Some m) free = rows_free this m (rows_of s.tables m) free (records_of m) (case.state m)
@@ -163,7 +163,7 @@ module _ (app : Application) (s : State) (viewer : Option ℕ) (case : IsLocalCa
   order_free this bs (orders.Up name field) free = model_free this (model_of_binder bs name) free
   order_free this bs (orders.Down name field) free = model_free this (model_of_binder bs name) free
 
-  -- what the record itself refers to
+  -- What the record itself refers to.
   pub this_read : (this : Option ℕ) (v : Value) (place : Option ℕ) → v ≡ value.Ref this → reads_own this v (table_at s.tables place) ≡ true
   this_read None v place is = ap (λ u. reads_own None u (table_at s.tables place)) is
   this_read (Some id) v None is = ap (λ u. reads_own (Some id) u []) is
@@ -173,7 +173,7 @@ module _ (app : Application) (s : State) (viewer : Option ℕ) (case : IsLocalCa
   this_stands None v is = ap (λ u. stands_own None u s.tables) is
   this_stands (Some id) v is = ap (λ u. stands_own (Some id) u s.tables) is ∙ table_own id (model_of_id id)
 
--- what refers to records of free models alone
+-- What refers only to records of models without groups.
 
 module _ (app : Application) where
   abbrev is_free_id : ℕ → Bool
@@ -201,7 +201,7 @@ module _ (app : Application) where
   env_with : (env : List Binding) (name : List ℕ) (id : ℕ) → is_free_env app env ≡ true → is_free_id id ≡ true → is_free_env app (env ++ binding name (value.Ref (Some id)) ∷ []) ≡ true
   env_with env name id h free = all_append (λ (b : Binding). is_free_value app b.bound_to) env (binding name (value.Ref (Some id)) ∷ []) h (and_from (is_free_id id) true free refl)
 
-  -- free records are bound
+  -- Records of models without groups are bound.
   pub bound_free : (bs : List Binder) (ids : List ℕ) (env : List Binding) → is_free_env app env ≡ true → are_free_ids ids ≡ true → is_free_env app (bound bs ids env) ≡ true
   bound_free [] ids env h free = h
   bound_free (b ∷ bs) [] env h free = h
@@ -219,7 +219,7 @@ module _ (app : Application) where
       let a = and_parts (is_free_value app b.bound_to) (is_free_env app bs) free in
       look_free (if same_text b.name name then b.bound_to else v) bs name (either_value (same_text b.name name) b.bound_to v a.0 h) a.1
 
-  -- tuples of such records
+  -- Tuples of such records.
   extended_free : (ids : List ℕ) (rows : List PlainRow) → are_free_ids ids ≡ true → AllByRecursion (λ (r : PlainRow). is_free_id r.id ≡ true) rows → list_all are_free_ids (extended_tuples ids rows) ≡ true
   extended_free ids [] h a = refl
   extended_free ids (r ∷ rows) h a =
@@ -265,7 +265,7 @@ module _ (app : Application) where
   first_free ([] ∷ tuples) h = refl
   first_free ((id ∷ ids) ∷ tuples) h = (and_parts (is_free_id id) (are_free_ids ids) (and_parts (are_free_ids (id ∷ ids)) (list_all are_free_ids tuples) h).0).0
 
--- fewer binders
+-- Fewer binders.
 
 behind_first_free : (models : List Entity) (bs : List Binder) → are_free models bs ≡ true → are_free models (behind_first bs) ≡ true
 behind_first_free models [] free = refl
@@ -283,7 +283,7 @@ left_free models [] ids free = refl
 left_free models (b ∷ bs) [] free = free
 left_free models (b ∷ bs) (i ∷ ids) free = left_free models bs ids (and_parts (is_free_model models b.model) (are_free models bs) free).1
 
--- what an assignment shows of a local state
+-- What an assignment shows of a local state.
 module _ (app : Application) (s : State) (viewer : Option ℕ) (case : IsLocalCase app s viewer) (u : ℕ → Bool) (this : Option ℕ) where
   abbrev seen : World
   seen = record { models = app.models; this = this; viewer = viewer; tables = (project_at u s).tables }
@@ -350,7 +350,7 @@ module _ (app : Application) (s : State) (viewer : Option ℕ) (case : IsLocalCa
       and_from (is_free_env app (env ++ binding name (value.Ref (Some r.id)) ∷ [])) (list_all (λ j. is_free_env app (env ++ binding name (value.Ref (Some j)) ∷ [])) (row_ids rows))
       (env_with app env name r.id h a.0) (each_bound env name rows h a.1)
 
-  -- the wanted records of the first binder that is left are bound to its name
+  -- The wanted records of the first binder that is left are bound to its name.
   pub shown_free : (left : List Binder) (o : Option Wanted) (env : List Binding) → is_free_env app env ≡ true → are_free app.models left ≡ true →
       list_all (λ j. is_free_env app (env ++ first_bound left (value.Ref (Some j)))) (row_ids (first_shown app.models u s.tables left o)) ≡ true
   shown_free [] o env h free = refl
@@ -362,7 +362,7 @@ module _ (app : Application) (s : State) (viewer : Option ℕ) (case : IsLocalCa
   answers_free bs o cond env free =
       ordered_free app (are_free_ids app) seen bs o _ (kept_free app (are_free_ids app) bs cond env _ (tuples_free bs free))
 
-  -- a cell has its field's kind
+  -- A cell has its field's kind.
   cell_kind : (ms : List Entity) (fs : List Field) (vs : List Value) (f : ℕ) (d : Value) → have_kinds (kinds_of_fields ms fs) vs ≡ true → has_kind (kind_at ms fs f) d ≡ true → has_kind (kind_at ms fs f) (unwrap_or (slice_get vs f) d) ≡ true
   cell_kind ms [] [] f d h k = k
   cell_kind ms [] (v ∷ vs) f d h k = cc
@@ -438,7 +438,7 @@ module _ (app : Application) (s : State) (viewer : Option ℕ) (case : IsLocalCa
   pick_free true x y h g = h
   pick_free false x y h g = g
 
-  -- what an expression that refers to free models alone is of
+  -- The value of an expression that refers only to models without groups.
   pub refers_to_free : (e : Expression) (env : List Binding) → is_free_env app env ≡ true → refers_free app.models (is_free_viewer app) e ≡ true → is_free_value app (mean seen e env) ≡ true
   refers_to_free (Expression.int i) env h free = refl
   refers_to_free (Expression.text t) env h free = refl
@@ -463,7 +463,7 @@ module _ (app : Application) (s : State) (viewer : Option ℕ) (case : IsLocalCa
   refers_to_free (Expression.any_of bs c o) env h free = some_free (answers_by seen bs o (mean seen c) env)
   refers_to_free (Expression.first bs c o) env h free = first_free app (answers_by seen bs o (mean seen c) env) (answers_free bs o (mean seen c) env free)
 
-  -- a value of such an expression stands among rows without guards
+  -- The rows to which the value of such an expression refers have no guards.
   free_stands : (v : Value) → is_free_value app v ≡ true → stands_own this v s.tables ≡ true
   free_stands (value.Int i) free = refl
   free_stands (value.Text t) free = refl
@@ -491,7 +491,7 @@ module _ (app : Application) (s : State) (viewer : Option ℕ) (case : IsLocalCa
   this_means (Expression.any_of bs c o) env h = absurd cc
   this_means (Expression.first bs c o) env h = absurd cc
 
-  -- what a local `get` reads
+  -- What a local `get` reads.
   pub got_own : (m : List ℕ) (e : Expression) (env : List Binding) (v : Value) → v ≡ mean seen e env → (is_this e || is_free_model app.models m) ≡ true → reads_own this v (table_named app s m) ≡ true
   got_own m e env v is local = got_if (is_this e) refl local
     where
@@ -499,7 +499,7 @@ module _ (app : Application) (s : State) (viewer : Option ℕ) (case : IsLocalCa
       got_if true own h = this_read app s viewer case this v (model_place app.models m) (is ∙ this_means e env own)
       got_if false other h = any_read this v (table_named app s m) (model_free app s viewer case this m h)
 
-  -- what a local `live` reads
+  -- What a local `live` reads.
   pub live_own : (e : Expression) (env : List Binding) (v : Value) → v ≡ mean seen e env → is_free_env app env ≡ true → (is_this e || refers_free app.models (is_free_viewer app) e) ≡ true → stands_own this v s.tables ≡ true
   live_own e env v is free local = live_if (is_this e) refl local
     where
@@ -507,7 +507,7 @@ module _ (app : Application) (s : State) (viewer : Option ℕ) (case : IsLocalCa
       live_if true own h = this_stands app s viewer case this v (is ∙ this_means e env own)
       live_if false other h = free_stands v (ap (is_free_value app) is ∙ refers_to_free e env free h)
 
--- another state that is the same, and another test
+-- The same state and another test.
 pub locally : (app : Application) (s t : State) (viewer : Option ℕ) (test other : Bool) → t ≡ s → (test ≡ true → other ≡ true) → IsLocally app s viewer test → IsLocally app t viewer other
 locally app s t viewer test other same passes h =
     record {
@@ -515,7 +515,7 @@ locally app s t viewer test other same passes h =
       passed = passes h.passed;
     }
 
--- the parts of a test
+-- The parts of a test.
 
 pub keep_first : (f a b : Bool) → (f && (a && b)) ≡ true → (f && a) ≡ true
 keep_first true true b h = refl
@@ -530,14 +530,14 @@ keep_last false a b h = h
 pub other_first : (f g a : Bool) → (f ≡ true → g ≡ true) → (f && a) ≡ true → (g && a) ≡ true
 other_first f g a h t = let p = and_parts f a t in and_from g a (h p.0) p.1
 
--- a query whose binders range over free models
+-- A query whose binders range over models without groups.
 pub ranges_free : (f a b l : Bool) → (f && ((a && b) && l)) ≡ true → ((f && a) && l) ≡ true
 ranges_free true true true l h = h
 ranges_free true true false l h = absurd cc
 ranges_free true false b l h = h
 ranges_free false a b l h = h
 
--- free tuples bind free names
+-- Tuples of records of models without groups bind names only to such records.
 pub bound_all : (app : Application) (bs : List Binder) (env : List Binding) (tuples : List (List ℕ)) → is_free_env app env ≡ true → list_all (are_free_ids app) tuples ≡ true →
     list_all (λ ids. is_free_env app (bound bs ids env)) tuples ≡ true
 bound_all app bs env tuples h free = all_less (are_free_ids app) (λ ids. is_free_env app (bound bs ids env)) (λ ids f. bound_free app bs ids env h f) tuples free
@@ -548,7 +548,7 @@ each_lengthened q js (t ∷ ts) h =
     let a = and_parts (list_all q (lengthened_tuples t js)) (list_all q (lengthened_all ts js)) (sym (list_all-append q (lengthened_tuples t js) (lengthened_all ts js)) ∙ h) in
     and_from (list_all q (lengthened_tuples t js)) (list_all (λ ids. list_all q (lengthened_tuples ids js)) ts) a.0 (each_lengthened q js ts a.1)
 
--- the tuples of a product begin free ones
+-- The tuples of a product begin tuples of records of models without groups.
 pub begun_free : (app : Application) (s : State) (viewer : Option ℕ) (case : IsLocalCase app s viewer) (u : ℕ → Bool) (this : Option ℕ) (bs : List Binder) (o : Option Wanted) (env : List Binding)
     (last : Option (List ℕ)) (tuples : List (List ℕ)) → is_free_env app env ≡ true → are_free app.models bs ≡ true →
     IsBegun (seen app s viewer case u this) (behind_first bs) (firsts_wanted app.models u s.tables bs o) last tuples → list_all (begins_free app bs env last) tuples ≡ true
@@ -564,7 +564,7 @@ begun_free app s viewer case u this bs o env None tuples h free begun =
     ∙ all_less q (begins_free app bs env None) (λ ids f. and_from (q ids) (are_free app.models bs) f free) most
     (bound_all app bs env most h (most_free app s viewer case u this bs o free))
 
--- the tuple bound before, and then each last id
+-- The tuple is bound first, and then each last id.
 pub last_free : (app : Application) (bs left : List Binder) (env inner : List Binding) (ids js : List ℕ) → inner ≡ bound bs ids env → left ≡ left_behind bs ids →
     list_all (λ ids. is_free_env app (bound bs ids env)) (lengthened_tuples ids js) ≡ true → list_all (λ j. is_free_env app (inner ++ first_bound left (value.Ref (Some j)))) js ≡ true
 last_free app bs left env inner ids [] inside behind h = refl

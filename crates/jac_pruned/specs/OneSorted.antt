@@ -7,17 +7,17 @@ use Rattle.jac_lang.specs.declared.queries.Order.TheVariants as orders
 use Rattle.jac_lang.specs.Lookup.{same_text}
 use Rattle.jac_query.specs.Sorted.{value_less}
 
--- the order is that in which the records are found, or by a field of this binder
+-- The order is that in which the records are found, or it is by a field of this binder.
 abbrev pub SortsBinder : Binder → Order → Type 0
 SortsBinder b orders.Key = ⊤
 SortsBinder b (orders.Up name field) = same_text b.name name ≡ true
 SortsBinder b (orders.Down name field) = same_text b.name name ≡ true
 
--- each id with its key
+-- Each id with its key.
 abbrev pub keyed_each : (ℕ → Value) → List ℕ → List (ℕ × Value)
 keyed_each key [] = []
 keyed_each key (j ∷ js) = (j, key j) ∷ keyed_each key js
 
--- by the key of an id
+-- The order of ids by their keys.
 abbrev pub id_less : Bool → ℕ × Value → ℕ × Value → Bool
 id_less down p q = value_less down p.1 q.1

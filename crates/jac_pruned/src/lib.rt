@@ -1,5 +1,5 @@
-//! Expressions and queries in the world that one assignment shows: early pruning, in which no
-//! faceted value is made.
+//! Evaluates expressions and queries in the one world that an assignment shows (early pruning). It
+//! reports which labels were consulted.
 #![tactic(auto, using(jac_shown_rows::proofs::Growing::grows_same, jac_shown_rows::proofs::Growing::grows_then, jac_shown_rows::proofs::Growing::agrees_less))]
 
 mod answering;

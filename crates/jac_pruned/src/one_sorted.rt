@@ -23,7 +23,7 @@ use jac_value::{Id, Memory, Txt, Value};
 use jac_world::Assignment;
 use std::alloc::Global;
 
-/// Whether the order is that in which records are found, or by a field of this binder.
+/// Whether the order is that in which the records are found, or by a field of this binder.
 pub(crate) fn sorts_binder(binder: &Binder, order: &Order) -> bool
     ensures { result ≡ true → SortsBinder binder.now order.now }
 {
@@ -34,7 +34,7 @@ pub(crate) fn sorts_binder(binder: &Binder, order: &Order) -> bool
     }
 }
 
-/// The ids in the order that the query asks for.
+/// The ids in the query's order.
 pub(crate) fn sort_ids<K: Keeper>(
     work: &mut Work<'_, K>,
     at: &WorldContext<'_>,
@@ -92,7 +92,7 @@ fn sort_by_field<K: Keeper>(
     Ok(plain)
 }
 
-// Each id with the field of its record. The field is found by its name once.
+// Each id with the field of its record. The field is looked up by its name once.
 fn keyed_ids<K: Keeper>(
     work: &mut Work<'_, K>,
     at: &WorldContext<'_>,
@@ -118,7 +118,7 @@ fn keyed_ids<K: Keeper>(
     Ok(keyed)
 }
 
-// The cell of the record in the column, or 0 without one.
+// The cell of the record in the column, or 0 if there is no column.
 fn key_in<K: Keeper>(
     work: &mut Work<'_, K>,
     a: &Assignment,

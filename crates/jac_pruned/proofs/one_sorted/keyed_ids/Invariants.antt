@@ -10,7 +10,7 @@ use Rattle.jac_shown_rows.specs.Seen.{seen_at}
 use Rattle.jac_shown_rows.proofs.Working.{LoopOver}
 use Rattle.jac_pruned.proofs.one_sorted.keyed_ids.Given as goal
 
--- the keyed ids so far, before those that are left, are all
+-- The keyed ids so far, followed by those that are left, are all.
 abbrev pub invariant-ids : goal.invariant-ids
 invariant-ids g l =
     let k = g.K.Keeper in

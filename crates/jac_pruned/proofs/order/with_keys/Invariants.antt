@@ -11,7 +11,7 @@ use Rattle.jac_pruned.specs.Tupled.{keyed_by}
 use Rattle.jac_shown_rows.proofs.Working.{LoopOver}
 use Rattle.jac_pruned.proofs.order.with_keys.Given as goal
 
--- the keyed tuples so far, before those that are left, are all
+-- The keyed tuples so far, followed by those that are left, are all.
 abbrev pub invariant-tuples : goal.invariant-tuples
 invariant-tuples g l =
     let k = g.K.Keeper in
