@@ -1,4 +1,4 @@
--- What pieces come to.
+-- What the pieces come to.
 use Rattle.std.proofs.Common.{◌≡◌, refl, ◌∙◌, sym, ap, [], ◌++◌, ◌∷◌, ◌||◌, ℕ, Bool, true, false, List, Option, Some, None, append_assoc, append-nil}
 use Rattle.std.specs.Option.{option_map}
 use Rattle.jac_plain.specs.declared.page.Page.{Page}
@@ -41,7 +41,7 @@ or-true : (b : Bool) → (b || true) ≡ true
 or-true true = refl
 or-true false = refl
 
--- one piece more
+-- One more piece.
 pub buffer-push : (ps : List Piece) (p : Piece) → buffer_for (ps ++ p ∷ []) ≡ buffer_with p (buffer_for ps)
 buffer-push ps (piece.Added bytes) =
     same_parts _ _ _ _ _ _ (body-push ps (piece.Added bytes) ∙ ap (λ b. body_of ps ++ b) (append-nil bytes))
@@ -59,11 +59,11 @@ located to (piece.Added bytes ∷ ps) = located to ps
 located to (piece.Missing ∷ ps) = located to ps
 located to (piece.Redirect next ∷ ps) = located (Some next) ps
 
--- the page of what pieces come to is the pieces' own
+-- The page of what the pieces come to is the page of the pieces.
 pub page-in : (ps : List Piece) → page_in (buffer_for ps) ≡ page_of ps
 page-in ps = ap (λ to. page_by (is_missing ps) to (body_of ps)) (located None ps)
 
--- there are pieces that come to this
+-- Some pieces come to this.
 made-by : (body : List ℕ) (gone : Bool) (to : Option (List ℕ)) → (ps : List Piece) × (buffer_for ps ≡ parts body gone to)
 made-by body false None = (piece.Added body ∷ [], ap (λ b. parts b false None) (append-nil body))
 made-by body true None = (piece.Added body ∷ (piece.Missing ∷ []), ap (λ b. parts b true None) (append-nil body))

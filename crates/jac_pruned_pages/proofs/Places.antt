@@ -7,7 +7,7 @@ use Rattle.jac_plain.specs.Expressions.{binding}
 use Rattle.jac_plain.specs.Statements.{with_value, binds}
 use Rattle.jac_pruned_pages.specs.Places.{place_after, last_place}
 
--- the last binding has another name, or this one
+-- The last binding has another name, or this one.
 pub place_passed : (name : List ℕ) (outer : List Binding) (b : Binding) → same_text b.name name ≡ false → last_place name (outer ++ b ∷ []) ≡ last_place name outer
 place_passed name [] b other = ap (λ c. place_after c None) other
 place_passed name (o ∷ outer) b other = ap (place_after (same_text o.name name)) (place_passed name outer b other)
@@ -30,7 +30,8 @@ binds-place name (b ∷ bs) = by (same_text b.name name) (last_place name bs) (b
     by false None h = h
     by false (Some i) h = h
 
--- what `assigned` does of a first binding, by whether a later one has the name, and whether this one has
+-- What `assigned` does to a first binding, by whether a later binding has the name and whether this
+-- one has it.
 abbrev assigned_by : Bool → Bool → Binding → Value → List Binding → List Binding → List Binding
 assigned_by true one b v bs changed = b ∷ changed
 assigned_by false true b v bs changed = binding b.name v ∷ bs
@@ -50,7 +51,7 @@ module _ (name : List ℕ) (v : Value) where
       ∙ ap (λ l. assigned_by l (same_text b.name name) b v bs (with_value name v bs)) (binds-place name bs ∙ ap is_there place)
       ∙ ap (λ o. assigned_by (is_there p) o b v bs (with_value name v bs)) same
 
-  -- where no binding has the name
+  -- If no binding has the name.
   pub assigned-none : (bs : List Binding) → last_place name bs ≡ None → with_value name v bs ≡ bs
   assigned-none [] none = refl
   assigned-none (b ∷ bs) none = step (last_place name bs) (same_text b.name name) refl refl none
@@ -60,7 +61,7 @@ module _ (name : List ℕ) (v : Value) where
       step None true place same n = cc
       step (Some i) one place same n = cc
 
-  -- where the one at this place is the innermost
+  -- If the binding at this place is the innermost.
   pub assigned-some : (bs : List Binding) (i : ℕ) (x : Binding) → last_place name bs ≡ Some i → x ≡ get_or bs i x
       → slice_set bs i (binding x.name v) ≡ with_value name v bs
   assigned-some [] i x place item = cc

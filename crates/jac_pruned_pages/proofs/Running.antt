@@ -37,7 +37,7 @@ mutual
   is-reading (Statement.template t) h = tt
   is-reading (Statement.block body) h = are-reading body h
 
-  -- statements that write nothing, each by its own parts
+  -- Statements that write nothing, each by its own parts.
   pub are-reading : (ss : Statements) → are_reading ss ≡ true → AreReading ss
   are-reading Statements.none h = tt
   are-reading (Statements.more s rest) h =
@@ -49,18 +49,18 @@ run_of tables env pieces = record { tables = tables; env = env; pieces = pieces 
 abbrev cut_left : ℕ → Left → Left
 cut_left n l = record l { env = take n l.env }
 
--- some run that has come to this ends there
+-- Some run that has come to this ends there.
 pub record Comes (now : Left) (rest : Run → Run) (end : Run) : Type 0 where
   pub from : Run
   pub is : now ≡ run_left from
   pub ends : rest from ≡ end
 
--- before the first step
+-- Before the first step.
 pub comes_first : (w : ℕ → Bool) (s : State) (env : List Binding) (page : BufferSeen) (pieces : List Piece) (all : Run → Run) → page ≡ buffer_for pieces
     → Comes (left_at w s env page) all (all (run_in w s env pieces))
 comes_first w s env page pieces all is = record { from = run_in w s env pieces; is = ap (left_at w s env) is; ends = refl }
 
--- a step, on whatever run has come to what it begins with
+-- A step, for each run that has come to what the step begins with.
 on_run : (step : Run → Run) (w : ℕ → Bool) (s : State) (env : List Binding) (page : BufferSeen) (r : Run) (new : Left)
     → ((pieces : List Piece) → page ≡ buffer_for pieces → new ≡ run_left (step (run_in w s env pieces))) → left_at w s env page ≡ run_left r
     → new ≡ run_left (step r)
@@ -70,7 +70,7 @@ on_run step w s env page r new h is =
     ∙ ap (λ (e : List Binding). run_of r.tables e r.pieces) (ap (λ (l : Left). l.env) is) in
     subst (λ (x : Run). new ≡ run_left (step x)) same (h r.pieces (ap (λ (l : Left). l.page) is))
 
--- after one step more, in the same state
+-- After one more step, in the same state.
 comes_on : (step rest : Run → Run) (end : Run) (w : ℕ → Bool) (old s : State) (env env2 : List Binding) (page page2 : BufferSeen) → old ≡ s
     → ((pieces : List Piece) → page ≡ buffer_for pieces → left_at w old env2 page2 ≡ run_left (step (run_in w old env pieces)))
     → Comes (left_at w s env page) (λ r. rest (step r)) end → Comes (left_at w s env2 page2) rest end
@@ -82,7 +82,7 @@ comes_on step rest end w old s env env2 page page2 same h before =
       ends = before.ends;
     }
 
--- after one tuple more
+-- After one more tuple.
 pub tuple_more : (bs : List Binder) (body : List ℕ → Run → Run) (ids : List ℕ) (left rest : List (List ℕ)) (end : Run) (w : ℕ → Bool) (old s : State)
     (env env2 : List Binding) (page page2 : BufferSeen)
     → left ≡ ids ∷ rest → old ≡ s
@@ -95,13 +95,13 @@ tuple_more bs body ids left rest end w old s env env2 page page2 split same h be
 comes_last : (now : Left) (end : Run) → Comes now (λ r. r) end → now ≡ run_left end
 comes_last now end all = all.is ∙ ap run_left all.ends
 
--- behind the last tuple
+-- After the last tuple.
 pub tuples_end : (bs : List Binder) (body : List ℕ → Run → Run) (tuples : List (List ℕ)) (i : ℕ) (now : Left) (end : Run) → length tuples ≤ i
     → Comes now (for_each bs body (drop i tuples)) end → now ≡ run_left end
 tuples_end bs body tuples i now end past all =
     comes_last now end (subst (λ (ts : List (List ℕ)). Comes now (for_each bs body ts) end) (drop_all i tuples past) all)
 
--- after one record more of a loop over one binder's records
+-- After one more record of a loop over one binder's records.
 pub record_more : (b : Binder) (body : List ℕ → Run → Run) (j : ℕ) (left rest : List ℕ) (end : Run) (w : ℕ → Bool) (old s : State)
     (env env2 : List Binding) (page page2 : BufferSeen)
     → left ≡ j ∷ rest → old ≡ s
@@ -112,13 +112,13 @@ record_more b body j left rest end w old s env env2 page page2 split same h befo
     tuple_more (b ∷ []) body (j ∷ []) (lengthened_tuples [] left) (lengthened_tuples [] rest) end w old s env env2 page page2
     (ap (lengthened_tuples []) split) same h before
 
--- behind the last record
+-- After the last record.
 pub records_end : (b : Binder) (body : List ℕ → Run → Run) (js : List ℕ) (i : ℕ) (now : Left) (end : Run) → length js ≤ i
     → Comes now (for_each (b ∷ []) body (lengthened_tuples [] (drop i js))) end → now ≡ run_left end
 records_end b body js i now end past all =
     comes_last now end (subst (λ (ks : List ℕ). Comes now (for_each (b ∷ []) body (lengthened_tuples [] ks)) end) (drop_all i js past) all)
 
--- the body under more bindings, which are cut again
+-- The body with more bindings, which are removed afterwards.
 pub scopes : (body : Run → Run) (w : ℕ → Bool) (s : State) (env more inner left new : List Binding) (n : ℕ) (page : BufferSeen) (pieces : List Piece)
     → inner ≡ more → n ≡ length env → new ≡ take n left → left_at w s left page ≡ run_left (body (run_in w s inner pieces))
     → left_at w s new page ≡ run_left (scoped_run more body (run_in w s env pieces))
@@ -126,18 +126,18 @@ scopes body w s env more inner left new n page pieces bound long cut ran =
     ap (λ e. left_at w s e page) (cut ∙ ap (λ m. take m left) long)
     ∙ ap (cut_left (length env)) (ran ∙ ap (λ e. run_left (body (run_in w s e pieces))) bound)
 
--- an expression of a statement, which has no record whose policy is asked
+-- An expression of a statement, which has no record whose policy is evaluated.
 pub value_here : (app : App) (ctx : Ctx) (w : ℕ → Bool) (s : State) (env : List Binding) (pieces : List Piece) (e : Expression) (v : Value) → ctx.this ≡ None
     → v ≡ mean (world_at app ctx s w) e env → v ≡ value_in (setting_at app ctx w) e (run_in w s env pieces)
 value_here app ctx w s env pieces e v none is = is ∙ ap (λ (this : Option ℕ). mean (record (world_at app ctx s w) { this = this }) e env) none
 
--- one piece more
+-- One more piece.
 pub piece_more : (w : ℕ → Bool) (s : State) (env : List Binding) (page page2 : BufferSeen) (pieces : List Piece) (p made : Piece) → page ≡ buffer_for pieces
     → page2 ≡ buffer_with made page → made ≡ p → left_at w s env page2 ≡ run_left (with_piece p (run_in w s env pieces))
 piece_more w s env page page2 pieces p made is added same =
     ap (left_at w s env) (added ∙ ap (buffer_with made) is ∙ sym (buffer-push pieces made) ∙ ap (λ (x : Piece). buffer_for (pieces ++ x ∷ [])) same)
 
--- a loop over the answers, in the same state
+-- A loop over the answers, in the same state.
 pub for_all : (bs : List Binder) (body : List ℕ → Run → Run) (w : ℕ → Bool) (old s : State) (env env2 : List Binding) (page2 : BufferSeen) (pieces : List Piece)
     (tuples all : List (List ℕ)) → old ≡ s → tuples ≡ all → left_at w old env2 page2 ≡ run_left (for_each bs body tuples (run_in w old env pieces))
     → left_at w s env2 page2 ≡ run_left (for_each bs body all (run_in w s env pieces))

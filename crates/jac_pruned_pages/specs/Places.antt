@@ -3,13 +3,14 @@ use Rattle.std.specs.Prelude.{ℕ, suc, Bool, true, false, List, [], ◌∷◌, 
 use Rattle.jac_lang.specs.declared.bindings.Binding.{Binding}
 use Rattle.jac_lang.specs.Lookup.{same_text}
 
--- a place after the first binding, or the first where it is the one and there is none after
+-- A place after the first binding. If there is none after it, the first place, if the first binding
+-- is the one.
 abbrev pub place_after : Bool → Option ℕ → Option ℕ
 place_after is_one (Some i) = Some (suc i)
 place_after true None = Some 0
 place_after false None = None
 
--- the place of the innermost binding of the name, which stands last
+-- The place of the innermost binding of the name, which is the last one.
 abbrev pub last_place : List ℕ → List Binding → Option ℕ
 last_place name [] = None
 last_place name (b ∷ bs) = place_after (same_text b.name name) (last_place name bs)

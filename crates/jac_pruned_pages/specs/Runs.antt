@@ -18,20 +18,20 @@ use Rattle.jac_shown_rows.specs.declared.world_context.WorldContext.{WorldContex
 use Rattle.jac_pruned_pages.specs.declared.progress.Progress.{Progress}
 use Rattle.jac_plain.specs.Shown.{setting_at}
 
--- a run over the tables that an assignment shows of a state
+-- A run over the tables that an assignment shows of a state.
 abbrev pub run_in : (ℕ → Bool) → State → List Binding → List Piece → Run
 run_in w s env pieces = record { tables = (project_at w s).tables; env = env; pieces = pieces }
 
--- the page of the statements, run from these bindings
+-- The page of the statements, run from these bindings.
 abbrev pub page_ran : App → Ctx → (ℕ → Bool) → State → List Binding → Statements → Page
 page_ran app ctx w s env body = page_of (leaves_all (setting_at app ctx w) body
     (run_in w s env [])).pieces
 
--- the page of some pieces
+-- The page of some pieces.
 abbrev pub IsPageMade : Page → Type 0
 IsPageMade p = (pieces : List Piece) × (p ≡ page_of pieces)
 
--- what a run leaves, its pieces by what they come to
+-- What a run leaves, with what its pieces come to.
 pub record Left : Type 0 where
   pub tables : List (List PlainRow)
   pub env : List Binding
@@ -40,12 +40,12 @@ pub record Left : Type 0 where
 abbrev pub run_left : Run → Left
 run_left r = record { tables = r.tables; env = r.env; page = buffer_for r.pieces }
 
--- the same of these bindings and this page, over the tables that an assignment shows of a state
+-- The same for these bindings and this page, over the tables that an assignment shows of a state.
 abbrev pub left_at : (ℕ → Bool) → State → List Binding → BufferSeen → Left
 left_at w s env page = record { tables = (project_at w s).tables; env = env; page = page }
 
--- under each assignment that agrees on the labels of the support, the step leaves what is new,
--- whatever pieces the page came from
+-- Under each assignment that agrees on the support, the step leaves the new bindings and the new
+-- page, whatever pieces the page came from.
 abbrev pub RunsShown : List ℕ → WorldContext → ((ℕ → Bool) → Run → Run) → State → Progress →
     Progress → Type 0
 RunsShown support at step s old new =
@@ -55,7 +55,7 @@ RunsShown support at step s old new =
     ≡ run_left (step w (run_in w s old.env.items pieces))
 
 abbrev mutual
-  -- the statement writes nothing
+  -- The statement writes nothing.
   pub IsReadingStatement : Statement → Type 0
   IsReadingStatement (Statement.put e) = ⊤
   IsReadingStatement (Statement.escape e) = ⊤

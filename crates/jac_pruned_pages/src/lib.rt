@@ -1,5 +1,5 @@
-//! Statements that write nothing, in the world that one assignment shows, and the page that they
-//! make.
+//! Runs the statements of a `GET` in the one world that an assignment shows, and makes its page. It
+//! reports which labels were consulted.
 #![tactic(auto, using(jac_shown_rows::proofs::Growing::grows_same, jac_shown_rows::proofs::Growing::grows_then, jac_shown_rows::proofs::Growing::agrees_less))]
 
 mod assignments;

@@ -12,7 +12,7 @@ use jac_plain::{Form, Page, make_page};
 use jac_value::{Bytes, Memory, Txt, Value};
 use std::alloc::Global;
 
-/// The bytes of a page, whether it isn't there, and what it leads to.
+/// The bytes of a page, whether the page is missing, and where it redirects to.
 #[derive(Drop)]
 pub(crate) struct PageBuffer {
     pub body: Vec<u8>,
@@ -48,7 +48,7 @@ impl PageBuffer {
         add_text(alloc, &mut self.body, value)
     }
 
-    /// Adds the text of the value as HTML shows it.
+    /// Adds the text of the value, escaped for HTML.
     pub fn add_escaped(&mut self, alloc: Global, value: &Value) -> Result<(), Memory>
         ensures { OnOk result (buffer_of self.new ≡ buffer_with
             (piece.Added (html (value_text value.now))) (buffer_of self.old)) }
@@ -56,7 +56,7 @@ impl PageBuffer {
         add_escaped(alloc, &mut self.body, value)
     }
 
-    /// Adds what the value adds in this form.
+    /// Adds the value in this form.
     pub fn add(&mut self, alloc: Global, form: Form, value: &Value) -> Result<(), Memory>
         ensures { OnOk result (buffer_of self.new ≡ buffer_with (piece_of form value.now)
             (buffer_of self.old)) }
@@ -72,14 +72,14 @@ impl PageBuffer {
         }
     }
 
-    /// Says that the page isn't there.
+    /// Marks the page as missing.
     pub fn set_missing(&mut self)
         ensures { buffer_of self.new ≡ buffer_with piece.Missing (buffer_of self.old) }
     {
         self.is_missing = true;
     }
 
-    /// Leads to the text, or to none for a value of another kind.
+    /// Redirects to the value's text. A value that isn't a text gives the empty text.
     pub fn lead_to(&mut self, alloc: Global, value: Value)
         ensures { buffer_of self.new ≡ buffer_with (piece.Redirect (bytes_of value))
             (buffer_of self.old) }

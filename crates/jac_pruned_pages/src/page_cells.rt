@@ -1,4 +1,4 @@
-//! Cells that come onto a page from where they are lent.
+//! Cells that are copied to a page from where they are lent.
 ghost use Rattle.std.specs.Prelude.{◌≡◌, ◌<◌, ℕ, Bool, Some, length, unwrap_or, IfSome, OnOk, IsTrue};
 ghost use Rattle.std.specs.Option.{option_copied};
 ghost use Rattle.jac_value.specs.Ids.{model_of_id};
@@ -26,7 +26,7 @@ use jac_value::{Id, Memory, Txt, Value, id_model};
 use jac_world::Assignment;
 use std::alloc::Global;
 
-/// A field that is read for a page, and how its value comes onto the page.
+/// A field that is read for a page, and the form in which its value is added.
 #[derive(Clone, Copy)]
 pub(crate) struct PageCell<'e> {
     pub form: Form,
@@ -107,7 +107,7 @@ fn add_one<K: Keeper>(
     }
 }
 
-// The record of the model that the value refers to.
+// The record that the value refers to, if it is one of the model.
 fn own_id(model: u8, value: &Value) -> Option<Id>
     ensures { IfSome result (λ id. (value.now ≡ variant.Ref (Some id)) × (model_of_id id ≡ model)) }
 {
@@ -123,8 +123,8 @@ fn own_id(model: u8, value: &Value) -> Option<Id>
     }
 }
 
-// Adds the cell of the record of this id, in the table of its model: it is lent where it is at
-// hand.
+// Adds the cell of the record with this id, in the table of its model. If the cell is in memory, it
+// is lent.
 fn add_own<K: Keeper>(
     work: &mut Work<'_, K>,
     a: &Assignment,

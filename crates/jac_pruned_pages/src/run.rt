@@ -1,5 +1,5 @@
 //! The run of statements that write nothing, in the world that an assignment shows, and its page.
-//! `execute` only looks at the form; each form is a function of its own.
+//! `execute` only inspects the form. Each form is executed by a function of its own.
 ghost use Rattle.std.specs.Prelude.{◌≡◌, ◌∷◌, [], ℕ, Bool, true, None, IfOk, OnOk, IsTrue};
 ghost use Rattle.jac_world.specs.World.{shown_by};
 ghost use Rattle.jac_keep.specs.WorkState.{state_of, IsTold, ReadsWork};
@@ -28,8 +28,8 @@ use jac_shown_rows::{Support, WorldContext, bound_value, text_at_hand};
 use jac_value::{Id, Ids, Txt, Value};
 
 /// The page of statements that write nothing, run from these bindings in the world that the
-/// assignment shows. The labels that were consulted are added to the support: under each assignment
-/// that shows the same of the support, the page is the same. `this` of the context isn't asked: a
+/// assignment shows. The labels that were consulted are added to the support. Under each assignment
+/// that agrees on the support, the page is the same. `this` of the context isn't used, because a
 /// statement has none.
 pub fn run_body_at<K: Keeper>(
     work: &mut Work<'_, K>,
@@ -48,7 +48,7 @@ pub fn run_body_at<K: Keeper>(
     ensures reads { ReadsWork K.seen work.old work.new result }
     ensures grows { Grows support.old support.new }
 {
-    // A statement has no record whose policy is asked.
+    // A statement has no record whose policy is evaluated.
     let ctx = Ctx {
         this: None,
         ..*at.ctx
@@ -130,13 +130,13 @@ fn execute<K: Keeper>(
             Ok(())
         }
         Stmt::Redirect(e) => execute_redirect(work, at, run, e, support),
-        // It was expanded to a block before.
+        // A template was expanded to a block before.
         Stmt::Template(_) => Ok(()),
         Stmt::Block(body) => execute_all(work, at, run, body, support),
     }
 }
 
-// Adds the text of the value to the page, from where it stands if it is at hand.
+// Adds the text of the value to the page. If the value is in memory, it isn't copied first.
 fn execute_put<K: Keeper>(
     work: &mut Work<'_, K>,
     at: &WorldContext<'_>,
@@ -162,7 +162,7 @@ fn execute_put<K: Keeper>(
     }
 }
 
-// Adds the text of a field, from where it is lent, or of another value.
+// Adds the text of a field, from where it is lent, or the text of another value.
 fn put_other<K: Keeper>(
     work: &mut Work<'_, K>,
     at: &WorldContext<'_>,
@@ -217,7 +217,7 @@ fn show_cell<K: Keeper>(
     }
 }
 
-// The same where the reference is evaluated first.
+// The same, with the reference evaluated first.
 fn show_evaluated<K: Keeper>(
     work: &mut Work<'_, K>,
     at: &WorldContext<'_>,
@@ -290,7 +290,7 @@ fn execute_escape<K: Keeper>(
     }
 }
 
-// Adds the HTML escape of the text of a value, which is lent if it is at hand.
+// Adds the HTML escape of the text of a value, which is lent if it is in memory.
 fn escape_value<K: Keeper>(
     work: &mut Work<'_, K>,
     at: &WorldContext<'_>,
@@ -338,7 +338,7 @@ fn escape_evaluated<K: Keeper>(
     Ok(())
 }
 
-// Leads to the value's text.
+// Redirects to the value's text.
 fn execute_redirect<K: Keeper>(
     work: &mut Work<'_, K>,
     at: &WorldContext<'_>,
@@ -383,7 +383,7 @@ fn execute_assign<K: Keeper>(
     Ok(())
 }
 
-// The body with the name bound to the value.
+// Runs the body with the name bound to the value of the expression.
 #[cycle(run)]
 fn execute_let<K: Keeper>(
     work: &mut Work<'_, K>,
@@ -410,7 +410,7 @@ fn execute_let<K: Keeper>(
     Ok(())
 }
 
-// The body with the name bound to this.
+// Runs the body with the name bound to this value.
 #[cycle(run)]
 fn execute_named<K: Keeper>(
     work: &mut Work<'_, K>,
@@ -438,7 +438,7 @@ fn execute_named<K: Keeper>(
     Ok(())
 }
 
-// The one body or the other.
+// Runs one body or the other.
 #[cycle(run)]
 fn execute_if<K: Keeper>(
     work: &mut Work<'_, K>,
@@ -470,7 +470,7 @@ fn execute_if<K: Keeper>(
     Ok(())
 }
 
-// The body for each answer of the query, which is asked once.
+// Runs the body for each answer of the query, which is evaluated once.
 #[cycle(run)]
 fn execute_for<K: Keeper>(
     work: &mut Work<'_, K>,
@@ -497,7 +497,8 @@ fn execute_for<K: Keeper>(
     }
 }
 
-// The same for a query of one binder, whose answers are sorted by one of its fields, or not at all.
+// The same for a query with only one binder, if the answers are sorted by one of its fields or not
+// at all.
 #[cycle(run)]
 fn execute_alone<K: Keeper>(
     work: &mut Work<'_, K>,
@@ -527,7 +528,7 @@ fn execute_alone<K: Keeper>(
     Ok(())
 }
 
-// The body for each of the records of a binder.
+// Runs the body for each of the records of a binder.
 #[cycle(run)]
 fn execute_records<K: Keeper>(
     work: &mut Work<'_, K>,
@@ -555,7 +556,7 @@ fn execute_records<K: Keeper>(
     Ok(())
 }
 
-// The body with the binder bound to the record.
+// Runs the body with the binder bound to the record.
 #[cycle(run)]
 fn execute_record<K: Keeper>(
     work: &mut Work<'_, K>,
@@ -617,7 +618,7 @@ fn execute_answers<K: Keeper>(
     Ok(())
 }
 
-// The body for each of the tuples.
+// Runs the body for each of the tuples.
 #[cycle(run)]
 fn execute_tuples<K: Keeper>(
     work: &mut Work<'_, K>,
@@ -644,7 +645,7 @@ fn execute_tuples<K: Keeper>(
     Ok(())
 }
 
-// The body with the binders bound to the tuple.
+// Runs the body with the binders bound to the tuple.
 #[cycle(run)]
 fn execute_bound<K: Keeper>(
     work: &mut Work<'_, K>,

@@ -1,4 +1,4 @@
-//! The bytes of a value on a page. Numbers are written without memory of their own.
+//! The bytes of a value on a page. Numbers are written without allocating memory for them.
 ghost use Rattle.std.specs.Fmt.{decimal, signed_decimal};
 ghost use Rattle.std.specs.Prelude.{◌≡◌, ◌∷◌, [], ◌++◌, true, OnOk};
 ghost use Rattle.jac_value.specs.Html.{html, html_byte};
@@ -21,7 +21,7 @@ pub(crate) fn add_text(alloc: Global, body: &mut Vec<u8>, value: &Value) -> Resu
     Ok(())
 }
 
-/// Adds the text of the value, as HTML shows it.
+/// Adds the text of the value, escaped for HTML.
 pub(crate) fn add_escaped(alloc: Global, body: &mut Vec<u8>, value: &Value) -> Result<(), Memory>
     ensures { OnOk result (body.new.items ≡ body.old.items ++ html (value_text value.now)) }
 {
@@ -63,7 +63,7 @@ fn escape_number(body: &mut Vec<u8>, number: u128) -> Result<(), Memory>
     add_shown(body, digits.format(number).as_bytes())
 }
 
-// Adds the bytes as HTML shows them: all at once where it shows each as it is.
+// Adds the bytes, escaped for HTML. If no byte needs an escape, they are added all at once.
 fn add_shown(body: &mut Vec<u8>, text: &[u8]) -> Result<(), Memory>
     ensures { OnOk result (body.new.items ≡ body.old.items ++ html text.now) }
 {
@@ -74,7 +74,7 @@ fn add_shown(body: &mut Vec<u8>, text: &[u8]) -> Result<(), Memory>
     add_html(body, text)
 }
 
-// Whether HTML shows each byte as it is.
+// Whether no byte needs an escape in HTML.
 fn are_plain(text: &[u8]) -> bool
     ensures { result ≡ true → html text.now ≡ text.now }
 {

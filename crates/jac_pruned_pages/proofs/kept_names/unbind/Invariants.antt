@@ -1,7 +1,7 @@
 use Rattle.std.proofs.Common.{◌≡◌, take, length}
 use Rattle.jac_pruned_pages.proofs.kept_names.unbind.Given as goal
 
--- the first bindings stay
+-- The first bindings stay.
 abbrev pub invariant-bindings : goal.invariant-bindings
 invariant-bindings l = take l.outer l.env.items ≡ take l.outer l.fn.env.items
 

@@ -16,7 +16,7 @@ use Rattle.jac_shown_rows.proofs.Working.{LoopOver}
 use Rattle.jac_pruned_pages.proofs.run.+run.Given as goal
 use Rattle.jac_plain.specs.Shown.{setting_around, setting_at}
 
--- what the statements that are left leave from here, all leave from the start
+-- What the statements that are left do from here, all statements do from the start.
 abbrev pub invariant-execute_all-body : goal.invariant-execute_all-body
 invariant-execute_all-body g l =
     let k = g.K.Keeper in
@@ -32,7 +32,7 @@ invariant-execute_all-body g l =
           (leaves_all setting (statements_of l.stmts) (run_in w s l.fn.run.env.items pieces)));
     }
 
--- what the tuples that are left leave from here, all leave from the start
+-- What the tuples that are left do from here, all tuples do from the start.
 abbrev pub invariant-execute_tuples-tuples : goal.invariant-execute_tuples-tuples
 invariant-execute_tuples-tuples g l =
     let k = g.K.Keeper in
@@ -47,7 +47,7 @@ invariant-execute_tuples-tuples g l =
           (for_each bs body l.tuples (run_in w s l.fn.run.env.items pieces)));
     }
 
--- what the records that are left leave from here, all leave from the start
+-- What the records that are left do from here, all records do from the start.
 abbrev pub invariant-execute_records-ids : goal.invariant-execute_records-ids
 invariant-execute_records-ids g l =
     let k = g.K.Keeper in
