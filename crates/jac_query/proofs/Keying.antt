@@ -23,7 +23,7 @@ keyed_at-append : (w : ℕ → Bool) (ks us : List Keyed) → keyed_at w (ks ++ 
 keyed_at-append w [] us = refl
 keyed_at-append w (k ∷ ks) us = append_if (holds w k.guard) (k.ids, k.key) (keyed_at w ks) (keyed_at w us) (keyed_at w (ks ++ us)) (keyed_at-append w ks us)
 
--- one was pushed, whose guard holds by b
+-- One tuple was pushed. Whether its guard holds is b.
 pub keyed_at-pushed : (w : ℕ → Bool) (ks us : List Keyed) (k : Keyed) (b : Bool) (ids : List ℕ) (key : Value) → us ≡ ks ++ k ∷ [] → holds w k.guard ≡ b → k.ids ≡ ids → k.key ≡ key →
     keyed_at w us ≡ keyed_at w ks ++ if◌then◌else◌ {A = List (List ℕ × Value)} b ((ids, key) ∷ []) []
 keyed_at-pushed w ks us k b ids key e h c d = ap (keyed_at w) e ∙ (keyed_at-append w ks (k ∷ []) ∙ rw (h, c, d) refl)
@@ -102,18 +102,18 @@ module _ (down : Bool) (w : ℕ → Bool) where
   abbrev as_keyed : List ℕ × Value → Keyed
   as_keyed p = record { guard = []; ids = p.0; key = p.1 }
 
-  -- filtering by a key's ties and taking those that hold change places
+  -- The ties of a key may be filtered before or after those with a guard that holds.
   filter-kept : (p : List ℕ × Value) (ks : List Keyed) → filter (ties (key_less down) p) (keyed_at w ks) ≡ keyed_at w (filter (ties (keyed_less down) (as_keyed p)) ks)
   filter-kept p [] = refl
   filter-kept p (k ∷ ks) = filter_step p k ks (filter (ties (keyed_less down) (as_keyed p)) ks) (holds w k.guard) (ties (key_less down) p (k.ids, k.key)) refl refl (filter-kept p ks)
 
-  -- the sort of all is the sort of those that hold
+  -- The sort of all tuples shows the sort of those with a guard that holds.
   pub sorted-live : (xs ys : List Keyed) → IsSortedBy (keyed_less down) ys → IsStableBy (keyed_less down) xs ys → keyed_at w ys ≡ sorted_by (key_less down) (keyed_at w xs)
   sorted-live xs ys up stable =
       stable-is (key_less down) (pair-order down) (keyed_at w xs) (keyed_at w ys) (up-kept ys (up-from_sorted (keyed_less down) (keyed-order down) ys up))
       (λ p. filter-kept p ys ∙ (ap (keyed_at w) (stable (as_keyed p)) ∙ sym (filter-kept p xs)))
 
--- what no later element is less in, with its ties as they stood, is the stable sort
+-- A sorted list with its ties in the same order as in another list is the stable sort of the other.
 pub sorted-all : (down : Bool) (xs ys : List Keyed) → IsSortedBy (keyed_less down) ys → IsStableBy (keyed_less down) xs ys → ys ≡ sorted_by (keyed_less down) xs
 sorted-all down xs ys up stable = stable-is (keyed_less down) (keyed-order down) xs ys (up-from_sorted (keyed_less down) (keyed-order down) ys up) stable
 
@@ -148,7 +148,7 @@ of_each : (p : List ℕ → Bool) (ks : List Keyed) → AllByRecursion (λ (k : 
 of_each p [] h = refl
 of_each p (k ∷ ks) h = and_from (p k.ids) (keyed_ids p ks) h.0 (of_each p ks h.1)
 
--- another order of the same has the same ids
+-- A permutation has the same ids.
 pub keyed_ids-permutation : (p : List ℕ → Bool) (xs ys : List Keyed) → IsPermutation xs ys → keyed_ids p xs ≡ true → keyed_ids p ys ≡ true
 keyed_ids-permutation p xs ys s h =
     of_each p ys (recursion_from_All (λ (k : Keyed). p k.ids ≡ true) ys

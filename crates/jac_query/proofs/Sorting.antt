@@ -14,7 +14,7 @@ module _ {X : Type 0} (lt : X → X → Bool) where
   NoneLess y [] = ⊤
   NoneLess y (z ∷ zs) = (lt z y ≡ false) × NoneLess y zs
 
-  -- no later element is less
+  -- No later element is less.
   abbrev pub IsUp : List X → Type 0
   IsUp [] = ⊤
   IsUp (y ∷ ys) = NoneLess y ys × IsUp ys
@@ -70,11 +70,11 @@ module _ {X : Type 0} (lt : X → X → Bool) (o : IsStrictWeakOrder lt) where
   same_test true false h k = sym (h refl)
   same_test false true h k = k refl
 
-  -- what ties x ties with the same
+  -- Elements that tie have the same ties.
   ties-same : (z x y : X) → ties lt x y ≡ true → ties lt z y ≡ ties lt z x
   ties-same z x y h = same_test (ties lt z y) (ties lt z x) (λ p. ties-trans z y x p (ties-sym x y h)) (λ p. ties-trans z x y p h)
 
-  -- the list without the first that ties x
+  -- The list without the first element that ties with x.
   abbrev without : X → List X → List X
   without x [] = []
   without x (y ∷ ys) = if ties lt x y then ys else y ∷ without x ys
@@ -99,7 +99,7 @@ module _ {X : Type 0} (lt : X → X → Bool) (o : IsStrictWeakOrder lt) where
   rest_of [] = []
   rest_of (y ∷ ys) = ys
 
-  -- the ties of z, without the first where x is one
+  -- The ties of z, without the first one if x is one of them.
   abbrev cut : Bool → List X → List X
   cut true xs = rest_of xs
   cut false xs = xs
@@ -138,7 +138,7 @@ module _ {X : Type 0} (lt : X → X → Bool) (o : IsStrictWeakOrder lt) where
   head_or d [] = d
   head_or d (v ∷ vs) = v
 
-  -- an element of those that pass isn't less than what none is less than
+  -- If no element is less than y, neither is the first one that passes the filter.
   first_not_less_if : (y x z : X) (zs fs rest : List X) (b : Bool) → lt z y ≡ false → (fs ≡ x ∷ rest → lt x y ≡ false) → cond b (z ∷ fs) fs ≡ x ∷ rest → lt x y ≡ false
   first_not_less_if y x z zs fs rest true e h k = ap (λ v. lt v y) (sym (ap (head_or z) k)) ∙ e
   first_not_less_if y x z zs fs rest false e h k = h k
@@ -165,7 +165,7 @@ module _ {X : Type 0} (lt : X → X → Bool) (o : IsStrictWeakOrder lt) where
       ap (λ l. y ∷ l) (h k) ∙ ap (λ b. if b then y ∷ insert_by lt x (without x ys) else x ∷ (y ∷ without x ys))
       (sym (less_by (lt x y) (lt y x) e (first-not_less (ties lt x) y x ys rest n k)))
 
-  -- a rising list is its first x, inserted into the rest
+  -- A rising list is the list without its first tie of x, with x inserted.
   insert-without : (x : X) (ys rest : List X) → IsUp lt ys → filter (ties lt x) ys ≡ x ∷ rest → ys ≡ insert_by lt x (without x ys)
   insert-without x [] rest u k = cc
   insert-without x (y ∷ ys) rest u k = insert_without_if x y ys rest (ties lt x y) refl u.0 u.1 k (insert-without x ys rest u.1)
@@ -173,7 +173,8 @@ module _ {X : Type 0} (lt : X → X → Bool) (o : IsStrictWeakOrder lt) where
   no_ties : (y : X) (ys : List X) → filter (ties lt y) (y ∷ ys) ≡ [] → ⊥
   no_ties y ys h = let e : y ∷ filter (ties lt y) ys ≡ [] = rw (ties-self y) at h in cc
 
-  -- a rising list whose ties stand as in another is the stable sort of the other
+  -- A rising list with its ties in the same order as in another list is the stable sort of the
+  -- other.
   pub stable-is : (xs ys : List X) → IsUp lt ys → ((x : X) → filter (ties lt x) ys ≡ filter (ties lt x) xs) → ys ≡ sorted_by lt xs
   stable-is [] [] u h = refl
   stable-is [] (y ∷ ys) u h = absurd (no_ties y ys (h y))

@@ -10,8 +10,9 @@ use jac_world::Steps;
 use std::alloc::Global;
 use std::sync::ledger::Ledger;
 
-/// The cell of the first row that holds, under each assignment, or the absent value where none does
-/// or it has no such cell. Of the alternatives of one record at most one holds.
+/// Under each assignment, the cell of the first row with a guard that holds. The value is `absent`
+/// if there is no such row, or it has no such cell. At most one alternative of a record has a guard
+/// that holds.
 pub fn read_field<L: Ledger>(
     alloc: Global,
     rows: &[Row],
