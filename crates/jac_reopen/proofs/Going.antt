@@ -1,4 +1,5 @@
--- One call of a keeper that opens its store again: what it keeps of the vault that was attached first.
+-- One call of a keeper that opens its store again: what it preserves of the vault that was attached
+-- first.
 use Rattle.std.proofs.Common.{◌≡◌, ◌≤◌, inl, inr, Option, Some, None, sym, ap, subst, arith}
 use Rattle.jac_io.specs.Faults.{Rose}
 use Rattle.jac_keep.specs.KeeperSeen.{KeeperSeen}
@@ -10,7 +11,7 @@ module _ {V : Type 0} (seen : V → KeeperSeen) (goes : Preorder V) where
   abbrev pub Goes : ReopenSeen V → ReopenSeen V → Type 0
   Goes old new = GivesUpAtFault seen goes.holds old new
 
-  -- the first vault was called
+  -- The first vault was called.
   pub first_goes : (a b : V) → (seen a).faults ≤ (seen b).faults → goes.holds a b → Goes (record { first = Some a; again = None }) (record { first = Some b; again = None })
   first_goes a b later on = record {
     later = later;
@@ -19,7 +20,7 @@ module _ {V : Type 0} (seen : V → KeeperSeen) (goes : Preorder V) where
     first = λ kept. on;
   }
 
-  -- and then given up, where it had counted a fault
+  -- Then it was given up, because it had counted a fault.
   pub closed_goes : (a b : V) (new : ReopenSeen V) → (seen a).faults ≤ (seen b).faults → goes.holds a b → Rose (seen a).faults (seen b).faults
       → (seen b).faults ≤ (seen_reopening seen new).faults → (new.again ≡ None → new ≡ record { first = Some b; again = None })
       → Goes (record { first = Some a; again = None }) new
@@ -30,12 +31,12 @@ module _ {V : Type 0} (seen : V → KeeperSeen) (goes : Preorder V) where
     first = λ still. subst (λ (r : ReopenSeen V). GoesAlong goes.holds (Some a) r.first) (sym (kept still)) on;
   }
 
-  -- and then looked at
+  -- Then it was tested.
   pub then_goes : (a b : V) (new : ReopenSeen V) → (seen a).faults ≤ (seen b).faults → goes.holds a b → Goes (record { first = Some b; again = None }) new
       → Goes (record { first = Some a; again = None }) new
   then_goes a b new later on closed = gives_up_joined seen goes (record { first = Some a; again = None }) (record { first = Some b; again = None }) new (first_goes a b later on) closed
 
-  -- the store that was opened again was called
+  -- The store that was opened again was called.
   pub again_goes : (first : Option V) (a b : UntoldSeen) → a.faults ≤ b.faults → Goes (record { first = first; again = Some a }) (record { first = first; again = Some b })
   again_goes first a b later = record {
     later = later;

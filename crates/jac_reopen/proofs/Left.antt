@@ -1,4 +1,5 @@
--- Two steps of a keeper as one: a call that the keeper stopped, and then a look at whether its store is shut.
+-- Two steps of a keeper as one: a call that the keeper stopped, and then a test whether its store
+-- is shut.
 use Rattle.std.proofs.Common.{◌≡◌, ◌∙◌, ℕ, false, true≢false, sym, ap, List, Option, Some, Result, Err, IsTrue, arith}
 use Rattle.jac_keep.specs.KeeperSeen.{KeeperSeen, Store, Keeps, Looks, Reads, IsLeft}
 use Rattle.jac_keep.specs.Reshaping.{Reshapes}
@@ -57,20 +58,20 @@ reshapes_then a b c change schema e left reshapes = record {
   };
 }
 
--- a store that was attached under this name, with this schema
+-- A store that was attached under this name, with this schema.
 pub known_by : (s : Store) (k : KnownSeen) → IsTrue s.called → IsTrue s.attached → s.schema ≡ Some k.schema → s.name ≡ k.name → s ≡ known_store k
 known_by s k called attached schema name = λ i. record { called = called i; attached = attached i; schema = schema i; name = name i }
 
--- ---- what is left where nothing was attached
+-- ---- what is left if nothing was attached
 
--- a vault that is attached isn't one that was refused
+-- An attached vault wasn't refused.
 pub never_left : {V : Type 0} (seen : V → KeeperSeen) (Leaves : Option (List ℕ) → V → Type 0) (v : V) → IsTrue (seen v).store.attached → IsLeftUnattached seen Leaves v
 never_left seen Leaves v attached un = absurd (true≢false (sym attached ∙ un))
 
--- and stays so while its store is the same
+-- It stays attached while its store is the same.
 pub still_attached : {V : Type 0} (seen : V → KeeperSeen) (Leaves : Option (List ℕ) → V → Type 0) (a b : V) → IsTrue (seen a).store.attached → (seen b).store ≡ (seen a).store → IsLeftUnattached seen Leaves b
 still_attached seen Leaves a b attached same = never_left seen Leaves b (ap (λ (s : Store). s.attached) same ∙ attached)
 
--- one that was refused is left as its maker says
+-- A vault that was refused is left as its maker says.
 pub left_unattached : {V : Type 0} (seen : V → KeeperSeen) (Leaves : Option (List ℕ) → V → Type 0) (name : Option (List ℕ)) (v : V) → Leaves name v → IsLeftUnattached seen Leaves v
 left_unattached seen Leaves name v left un = (name, left)

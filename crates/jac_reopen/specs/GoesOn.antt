@@ -1,4 +1,4 @@
--- that the vault goes on which was attached first, over any number of calls
+-- What any number of calls of a keeper that opens its store again preserve.
 use Rattle.std.proofs.Common.{◌≡◌, ◌⊎◌, inl, inr, Option, Some, None, arith}
 use Rattle.jac_io.specs.Faults.{Rose}
 use Rattle.jac_keep.specs.KeeperSeen.{KeeperSeen}
@@ -43,7 +43,7 @@ gives_up_joined seen goes a b c one two = record {
       (two.first kept);
 }
 
--- what a keeper keeps over each of its calls that opens its store again
+-- What each call of a keeper that opens its store again preserves.
 abbrev pub gives_up_at_fault : {V : Type 0} → (V → KeeperSeen) → Preorder V
     → Preorder (ReopenSeen V)
 gives_up_at_fault seen goes = record {

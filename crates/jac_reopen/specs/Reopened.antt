@@ -1,4 +1,4 @@
--- what is seen of a store that may be opened again
+-- What contracts see of a keeper that may open its store again.
 use Rattle.std.specs.Prelude.{◌≡◌, ◌≤◌, ◌⊎◌, ⊤, ℕ, Bool, true, false, List, [], Option, Some, None}
 use Rattle.jac_rows.specs.Good.{ModelShape}
 use Rattle.jac_rows.specs.declared.state.State.{State}
@@ -6,20 +6,20 @@ use Rattle.jac_io.specs.Faults.{Rose}
 use Rattle.jac_keep.specs.KeeperSeen.{KeeperSeen, Store}
 use Rattle.jac_keep.specs.Schema.{IsSchema}
 
--- a store's name and the schema that it was attached with
+-- A store's name and the schema that it was attached with.
 pub record KnownSeen : Type 0 where
   pub name : Option (List ℕ)
   pub schema : List ℕ
 
--- the store that is attached so
+-- The attached store with this name and schema.
 abbrev pub known_store : KnownSeen → Store
 known_store k = record { called = true; attached = true; schema = Some k.schema; name = k.name }
 
--- its schema is one of some models
+-- Its schema is a schema of some models.
 abbrev pub HasShapes : KnownSeen → Type 0
 HasShapes k = (shapes : List ModelShape) × IsSchema k.schema shapes
 
--- a keeper that was attached and that tells nothing, by its store and how often it failed
+-- A keeper that was attached and whose state isn't known: its store, and how often it failed.
 pub record UntoldSeen : Type 0 where
   pub known : KnownSeen
   pub faults : ℕ
@@ -32,8 +32,8 @@ seen_untold u = record {
   store = known_store u.known;
 }
 
--- what is supposed of a store before it is opened: whether anything is, the schema of what is
--- stored, where there is one, and its state
+-- What is supposed of a store before it is opened: whether anything is, the stored schema, if there
+-- is one, and its state.
 pub record Supposed : Type 0 where
   pub known : Bool
   pub schema : Option (List ℕ)
@@ -46,7 +46,7 @@ nothing_supposed = record {
   state = record { tables = []; number = 0 };
 }
 
--- a keeper that nobody attached, over a store of which this is supposed
+-- A keeper that isn't attached, over a store of which this is supposed.
 abbrev pub waiting_keeper : Supposed → KeeperSeen
 waiting_keeper s = record {
   tells = s.known;
@@ -55,11 +55,11 @@ waiting_keeper s = record {
   store = record { called = false; attached = false; schema = s.schema; name = None };
 }
 
--- one of which nothing is supposed
+-- A keeper that isn't attached, over a store of which nothing is supposed.
 abbrev pub unopened_keeper : KeeperSeen
 unopened_keeper = waiting_keeper nothing_supposed
 
--- the vault that was attached first, and the keeper over the store that was opened again
+-- The vault that was attached first, and the keeper over the store that was opened again.
 pub record ReopenSeen (V : Type 0) : Type 0 where
   pub first : Option V
   pub again : Option UntoldSeen
@@ -75,21 +75,22 @@ seen_either seen first (Some u) = seen_untold u
 abbrev pub seen_reopening : {V : Type 0} → (V → KeeperSeen) → ReopenSeen V → KeeperSeen
 seen_reopening seen r = seen_either seen r.first r.again
 
--- a vault that isn't attached was refused a store of some name, of which this is left
+-- If the vault isn't attached, it was refused a store of some name, and `Leaves` is true of that
+-- name and the vault.
 abbrev pub IsLeftUnattached : {V : Type 0} → (V → KeeperSeen) → (Option (List ℕ) → V → Type 0) → V
     → Type 0
 IsLeftUnattached seen Leaves v = (seen v).store.attached ≡ false
     → (name : Option (List ℕ)) × Leaves name v
 
--- one is there before and after, and goes on so, or none is
+-- Either there is one before and after, and `Goes` relates them, or there is none.
 abbrev pub GoesAlong : {V : Type 0} → (V → V → Type 0) → Option V → Option V → Type 0
 GoesAlong Goes None None = ⊤
 GoesAlong Goes None (Some b) = ⊥
 GoesAlong Goes (Some a) None = ⊥
 GoesAlong Goes (Some a) (Some b) = Goes a b
 
--- between two calls: only one that counted a fault gives up the vault that was attached first, for
--- good, and until then that goes on as it says itself
+-- From one call to a later one: the vault that was attached first is given up only if a fault was
+-- counted, and for good. Until then it goes on as its own relation says.
 pub record GivesUpAtFault {V : Type 0} (seen : V → KeeperSeen) (Goes : V → V → Type 0)
     (old new : ReopenSeen V) : Type 0 where
   pub later : (seen_reopening seen old).faults ≤ (seen_reopening seen new).faults

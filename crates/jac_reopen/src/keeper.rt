@@ -23,9 +23,9 @@ struct Spare<M: VaultMaker> {
     store: KnownStore,
 }
 
-/// A keeper over a store that was attached. Where a fault of the disk closed the store, each later
-/// call opens it again, with all the tests of attaching, and answers by what it holds then. From
-/// then on it tells nothing.
+/// A keeper over a store that was attached. If a fault of the disk closed the store, the next call
+/// opens it again, with all the tests of attaching. From then on calls answer from what the store
+/// holds, and the keeper's state isn't known.
 #[derive(Drop)]
 pub struct ReopeningKeeper<M: VaultMaker> {
     alloc: Global,
@@ -48,7 +48,7 @@ impl<M: VaultMaker> Model for ReopeningKeeper<M> {
 }
 
 impl<M: VaultMaker> ReopeningKeeper<M> {
-    /// A keeper over the store of this name, attached, or why it isn't.
+    /// A keeper over the store of this name. It is attached, or the result says why it isn't.
     pub fn attach(
         alloc: Global,
         maker: M,
@@ -89,14 +89,14 @@ impl<M: VaultMaker> ReopeningKeeper<M> {
         }
     }
 
-    /// A law: a vault that isn't attached left the store that it was refused as its maker says.
+    /// A law: if the vault isn't attached, it left the refused store as its maker says.
     pub fn stand(&self)
         ensures { IfSome self.now.first (IsLeftUnattached M.Vault.Keeper.seen M.leaves) }
     {
         let _ = &self.first;
     }
 
-    /// A law: the rows of the vault that was attached first stand as its maker says.
+    /// A law: the rows of the vault that was attached first are as its maker says.
     pub fn rows_stand(&self)
         ensures { IfSome self.now.first M.stands }
     {
@@ -105,8 +105,8 @@ impl<M: VaultMaker> ReopeningKeeper<M> {
         }
     }
 
-    // After a fault: where the store answers nothing more, it is closed, and opened again by the
-    // next call.
+    // After a fault: if the store answers no more calls, it is closed, and the next call opens it
+    // again.
     #[tactic(auto, using(crate::proofs::Going::first_goes, crate::proofs::Going::closed_goes))]
     fn close_if_shut(&mut self)
         requires attached { IsTrue (seen_reopening M.Vault.Keeper.seen self.old).store.attached }
@@ -155,7 +155,7 @@ impl<M: VaultMaker> ReopeningKeeper<M> {
 }
 
 impl<M: VaultMaker> ReopeningKeeper<M> {
-    /// As a vault's. A store that was opened again isn't brought to another schema.
+    /// As for a vault. A store that was opened again isn't brought to another schema.
     #[tactic(auto, using(crate::proofs::Left::reshapes_then, crate::proofs::Going::first_goes, crate::proofs::Going::then_goes, crate::proofs::Going::again_goes))]
     pub fn reshape(&mut self, alloc: Global, change: &Change, schema: &Txt) -> Result<(), Stop>
         requires attached { IsTrue (seen_reopening M.Vault.Keeper.seen self.old).store.attached }
@@ -188,7 +188,7 @@ impl<M: VaultMaker> ReopeningKeeper<M> {
     }
 }
 
-// Where memory runs out the store isn't opened again.
+// If memory runs out, the store won't be opened again.
 fn spare_of<M: VaultMaker>(
     alloc: Global,
     maker: M,

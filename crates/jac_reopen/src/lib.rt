@@ -1,4 +1,4 @@
-//! A keeper over a store that is opened again after a fault of the disk closed it.
+//! A keeper that opens its store again after a disk fault closed it.
 #![tactic(auto)]
 
 mod keeper;

@@ -21,18 +21,18 @@ pub trait VaultMaker: Drop {
     /// What is known of a vault that was attached with this schema.
     ghost begins: { List ℕ → Self.Vault → Type 0 };
 
-    /// What is known of a vault that wasn't attached to the store of this name: how what it opened
-    /// is left, beside what stood there, and why it was refused.
+    /// What is known of a vault that wasn't attached to the store of this name: how it left what it
+    /// opened, compared with what was there, and why it was refused.
     ghost leaves: { Option (List ℕ) → Self.Vault → Type 0 };
 
-    /// What is known of a vault at any time: how its rows stand, as long as it tells.
+    /// What is known of a vault at any time: what its rows are as long as its state is known.
     ghost stands: { Self.Vault → Type 0 };
 
-    /// A law: so it is of each vault.
+    /// A law: `stands` is true of each vault.
     fn rows_stand(vault: &Self::Vault)
         ensures { stands vault.now };
 
-    /// A vault over the store of this name, attached, or why it isn't.
+    /// A vault over the store of this name. It is attached, or the result says why it isn't.
     fn attach(
         &mut self,
         alloc: Global,
@@ -45,8 +45,8 @@ pub trait VaultMaker: Drop {
         ensures begins { OnOk result.1 (begins schema.now result.0) }
         ensures left { OnErr result.1 (leaves (option_copied name.entry) result.0) };
 
-    /// A vault over a store that was attached before: it is attached under the same name, with the
-    /// same schema. It tells nothing, since nobody knows what became of the store meanwhile.
+    /// A vault over a store that was attached before. It is attached under the same name, with the
+    /// same schema. Its state isn't known, because the store may have changed meanwhile.
     fn attach_again(&mut self, alloc: Global, store: &KnownStore) -> Result<Self::Vault, Stop>
         requires schema { HasShapes store.now }
         ensures attached { IfOk result (λ v. IsTrue (Self.Vault.Keeper.seen v).store.attached) }
@@ -54,7 +54,7 @@ pub trait VaultMaker: Drop {
             ≡ known_store store.now) }
         ensures untold { IfOk result (λ v. (Self.Vault.Keeper.seen v).tells ≡ false) };
 
-    /// Says to whoever runs the program that a call of the vault over this store failed.
+    /// Reports to the person who runs the program that a call of the vault over this store failed.
     fn tell_fault(&mut self, vault: &Self::Vault, store: &KnownStore);
 
     /// How often the vault failed.

@@ -9,8 +9,8 @@ use jac_value::{Id, Value};
 use std::alloc::Global;
 use std::marker::Model;
 
-/// A keeper over a store that was attached before, and is opened again as it is called. It tells
-/// nothing. After a fault the next call opens the store once more.
+/// A keeper over a store that was attached before and that is opened again when the keeper is
+/// called. Its state isn't known. After a fault the next call opens the store once more.
 #[derive(Drop)]
 pub struct ReopenedKeeper<M: VaultMaker> {
     alloc: Global,
@@ -33,7 +33,7 @@ impl<M: VaultMaker> Model for ReopenedKeeper<M> {
 }
 
 impl<M: VaultMaker> ReopenedKeeper<M> {
-    /// A keeper over the store, which failed so often and isn't open.
+    /// A keeper over the store. It starts with this number of faults, and the store isn't open.
     pub fn new(alloc: Global, maker: M, store: KnownStore, faults: u64) -> ReopenedKeeper<M>
         requires { HasShapes store }
         ensures { result ≡ record { known = store; faults = faults } }
@@ -47,7 +47,7 @@ impl<M: VaultMaker> ReopenedKeeper<M> {
         }
     }
 
-    /// Refuses what can't be done to a store that was opened again, and counts it.
+    /// Refuses a call that isn't possible on a store that was opened again, and counts a fault.
     pub fn refuse(&mut self) -> Result<(), Stop>
         ensures refused { result ≡ Err Stop.Keeper }
         ensures known { self.new.known ≡ self.old.known }
@@ -58,7 +58,7 @@ impl<M: VaultMaker> ReopenedKeeper<M> {
         Err(Stop::Keeper)
     }
 
-    // The vault, taken out; where there is none the store is opened.
+    // Takes the vault out. If there is none, the store is opened.
     fn take(&mut self) -> Result<M::Vault, Stop>
         ensures attached { IfOk result (λ v. IsTrue (M.Vault.Keeper.seen v).store.attached) }
         ensures untold { IfOk result (λ v. (M.Vault.Keeper.seen v).tells ≡ false) }
@@ -79,8 +79,8 @@ impl<M: VaultMaker> ReopenedKeeper<M> {
         }
     }
 
-    // Puts the vault back after a call that had this outcome. After a fault of which it doesn't
-    // recover it is closed.
+    // Puts the vault back after a call with this outcome. If it doesn't recover from a fault, it is
+    // closed.
     fn put<T: Drop>(&mut self, vault: M::Vault, outcome: Result<T, Stop>) -> Result<T, Stop>
         requires attached { IsTrue (M.Vault.Keeper.seen vault).store.attached }
         requires untold { (M.Vault.Keeper.seen vault).tells ≡ false }
