@@ -1,4 +1,4 @@
--- Bytes up to the first that is escaped stand for themselves.
+-- Bytes up to the first that is escaped are copied as they are.
 use Rattle.std.proofs.Common.{◌≡◌, ◌∙◌, ap, sym, subst, refl, ℕ, suc, ◌-◌, ◌+◌, ◌<◌, ◌≤◌, not, nat_lt, cond, Bool, true, false, Some, None, List, [], ◌∷◌, ◌++◌, length, take, drop, get_or, append_assoc, append-nil, arith}
 use Rattle.std.specs.List.{position, position_or_len}
 use Rattle.std.proofs.lemmas.List.{drop_more, drop_all, take_all, take_rest}
@@ -7,11 +7,11 @@ use Rattle.std.proofs.lemmas.Bool.Decides.{nat_tests}
 use Rattle.jac_value.specs.Quoted.{all_escaped, escaped_byte}
 use Rattle.jac_replies.specs.Escapes.{has_escape}
 
--- a byte that isn't escaped
+-- A byte that isn't escaped.
 plain_byte : (b : ℕ) → has_escape b ≡ false → escaped_byte b ≡ b ∷ []
 plain_byte b h = grind (arith, nat_tests)
 
--- what stands before the first byte that is escaped, and the others
+-- The bytes before the first that is escaped, and the others.
 pub to_first : (xs : List ℕ) → all_escaped xs ≡ take (position_or_len has_escape xs) xs ++ all_escaped (drop (position_or_len has_escape xs) xs)
 to_first [] = refl
 to_first (x ∷ xs) = by (has_escape x) refl (to_first xs)
@@ -28,7 +28,8 @@ place_found : (b : Bool) (n i : ℕ) → Some i ≡ cond b (Some n) None → n �
 place_found true n i h = cc
 place_found false n i h = cc
 
--- where the first stands at i, it comes behind those before it, and the others follow
+-- If the first such byte is at place `i`, its escape comes after the bytes before it, and the
+-- others follow.
 pub from_found : (xs : List ℕ) (i d : ℕ) → Some i ≡ position has_escape xs → i < length xs
     → all_escaped xs ≡ take i xs ++ (escaped_byte (get_or xs i d) ++ all_escaped (drop (i + 1) xs))
 from_found xs i d h l =
@@ -42,7 +43,7 @@ is_escaped_at xs i d h l =
     let inside : position_or_len has_escape xs < length xs = omega (arith, at, l) in
     subst (λ (n : ℕ). has_escape (get_or xs n d) ≡ true) at (passes_at_first has_escape xs d inside)
 
--- the front and the escape are put, and the others are left
+-- The bytes before it and its escape were added, and the others are left.
 pub put_front : (xs : List ℕ) (i : ℕ) (old mid new : List ℕ) → Some i ≡ position has_escape xs → i < length xs
     → mid ≡ old ++ take i xs → new ≡ mid ++ escaped_byte (get_or xs i 0)
     → new ++ all_escaped (take (length xs - (i + 1)) (drop (i + 1) xs)) ≡ old ++ all_escaped xs
@@ -59,7 +60,7 @@ place_missing : (b : Bool) (n : ℕ) → None ≡ cond b (Some n) None → b ≡
 place_missing true n h = cc
 place_missing false n h = refl
 
--- none is escaped
+-- No byte is escaped.
 pub all_plain : (xs : List ℕ) → None ≡ position has_escape xs → all_escaped xs ≡ xs
 all_plain xs h =
     let missing : nat_lt (position_or_len has_escape xs) (length xs) ≡ false = place_missing _ (position_or_len has_escape xs) h in

@@ -19,7 +19,7 @@ keeper_status = rw decimal-503 refl
 pub memory_status : codes " 500 " ≡ codes " " ++ decimal 500 ++ codes " "
 memory_status = rw decimal-500 refl
 
--- the pieces of the audit's line
+-- The pieces of the audit line.
 pub failed_audit : (k status : ℕ) (viewer : Option ℕ) (number words looks : List ℕ)
     → number ≡ decimal k → words ≡ codes " " ++ decimal status ++ codes " " → looks ≡ viewer_text viewer
     → number ++ words ++ looks ++ codes " nopage\n" ≡ audit_text k status viewer None None
@@ -37,7 +37,7 @@ memory_head method e = rw (e, decimal-500) refl
 pub memory_body : (method : List ℕ) → bytes_eq method (codes "HEAD") ≡ false → codes "reply 500 \"\" \"500 Internal Server Error\\n\"\n" ≡ reply_text method 500 None (refusal 500 None).body
 memory_body method e = rw (e, decimal-500) refl
 
--- the bodies alone
+-- Only the bodies.
 pub keeper_text : codes "503 Service Unavailable\n" ≡ (refusal 503 None).body
 keeper_text = rw decimal-503 refl
 

@@ -1,4 +1,4 @@
--- The text of labels, where others follow them.
+-- The text of labels that others follow.
 use Rattle.std.proofs.Common.{◌≡◌, ◌∙◌, ap, sym, refl, ℕ, List, [], ◌∷◌, ◌++◌, append_assoc, decimal}
 use Rattle.jac_replies.specs.Spelled.{more_labels}
 

@@ -2,7 +2,7 @@
 use Rattle.std.specs.Prelude.{ℕ, ◌==◌, ◌++◌, if◌then◌else◌, Option, None, List, [], ◌∷◌, codes, decimal}
 use Rattle.jac_replies.specs.declared.answer.Answer.{Answer}
 
--- the reason that stands after a status (RFC 9110, section 15, and RFC 4918, section 11.5)
+-- The reason phrase of a status (RFC 9110, section 15, and RFC 4918, section 11.5).
 abbrev pub reason : ℕ → List ℕ
 reason status =
     if status == 404 then codes "Not Found" else
@@ -15,7 +15,7 @@ reason status =
 abbrev pub fixed_body : ℕ → List ℕ
 fixed_body status = decimal status ++ codes " " ++ reason status ++ 10 ∷ []
 
--- an answer without a page
+-- An answer without a page.
 abbrev pub refusal : ℕ → Option (List ℕ) → Answer
 refusal status allow =
     record {

@@ -5,7 +5,7 @@ use Rattle.jac_value.specs.Quoted.{quoted_bytes}
 use Rattle.jac_replies.specs.declared.reply.Spelling.{Spelling}
 use Rattle.jac_replies.specs.declared.reply.Spelling.TheVariants as spellings
 
--- the body of a reply to HEAD isn't printed
+-- The body of a reply to HEAD isn't printed.
 abbrev pub printed_body : List ℕ → List ℕ → List ℕ
 printed_body method body = if bytes_eq method (codes "HEAD") then [] else body
 
@@ -13,17 +13,17 @@ abbrev pub location_text : Option (List ℕ) → List ℕ
 location_text None = []
 location_text (Some location) = location
 
--- `reply STATUS "LOCATION" "BODY"`, the reply to a request of this method
+-- `reply STATUS "LOCATION" "BODY"`, the reply to a request of this method.
 abbrev pub reply_text : List ℕ → ℕ → Option (List ℕ) → List ℕ → List ℕ
 reply_text method status location body =
     codes "reply " ++ decimal status ++ codes " " ++ quoted_bytes (location_text location)
     ++ codes " " ++ quoted_bytes (printed_body method body) ++ 10 ∷ []
 
--- `sent N "BYTES"`, the reply on the connection of this number
+-- `sent N "BYTES"`, the reply on the connection with this number.
 abbrev pub sent_text : ℕ → List ℕ → List ℕ
 sent_text c bytes = codes "sent " ++ decimal c ++ codes " " ++ quoted_bytes bytes ++ 10 ∷ []
 
--- bytes on a connection, as the line of a text or as they are
+-- Bytes on a connection, as a line of text or as they are.
 abbrev pub spelled_bytes : Spelling → ℕ → List ℕ → List ℕ
 spelled_bytes spellings.Quoted c bytes = sent_text c bytes
 spelled_bytes spellings.Raw c bytes = bytes
@@ -35,12 +35,12 @@ abbrev pub viewer_text : Option ℕ → List ℕ
 viewer_text None = codes "-"
 viewer_text (Some id) = decimal id
 
--- each label after a comma
+-- Each label after a comma.
 abbrev pub more_labels : List ℕ → List ℕ
 more_labels [] = []
 more_labels (k ∷ ks) = 44 ∷ (decimal k ++ more_labels ks)
 
--- the labels, rising and joined by commas
+-- The labels, joined by commas, or `-` if there are none.
 abbrev pub labels_text : List ℕ → List ℕ
 labels_text [] = codes "-"
 labels_text (k ∷ ks) = decimal k ++ more_labels ks
@@ -49,17 +49,17 @@ abbrev pub shown_text : Option (List ℕ) → List ℕ
 shown_text None = codes "nopage"
 shown_text (Some labels) = labels_text labels
 
--- ` of CONSULTED`, where the page was made after the labels alone that it consulted were resolved
+-- ` of CONSULTED`, if only the labels were resolved that the page consulted.
 abbrev pub consulted_text : Option (List ℕ) → List ℕ
 consulted_text None = []
 consulted_text (Some labels) = codes " of " ++ labels_text labels
 
--- ` STATUS VIEWER SHOWN` and what was consulted, which follow the number of a reply
+-- ` STATUS VIEWER SHOWN` and what was consulted, which follow the number of a reply.
 abbrev pub audit_rest : ℕ → Option ℕ → Option (List ℕ) → Option (List ℕ) → List ℕ
 audit_rest status viewer shown consulted =
     codes " " ++ decimal status ++ codes " " ++ viewer_text viewer ++ codes " " ++ shown_text shown
     ++ consulted_text consulted ++ 10 ∷ []
 
--- `K STATUS VIEWER SHOWN`, or `K STATUS VIEWER SHOWN of CONSULTED`, of the k-th reply
+-- `K STATUS VIEWER SHOWN`, or `K STATUS VIEWER SHOWN of CONSULTED`, for the k-th reply.
 abbrev pub audit_text : ℕ → ℕ → Option ℕ → Option (List ℕ) → Option (List ℕ) → List ℕ
 audit_text k status viewer shown consulted = decimal k ++ audit_rest status viewer shown consulted

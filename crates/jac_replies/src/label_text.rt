@@ -9,7 +9,7 @@ use jac_world::Label;
 use std::alloc::Global;
 use std::marker::Model;
 
-/// Labels, and the text that has each of them after a comma.
+/// Labels, and the text with each of them after a comma.
 #[derive(Drop)]
 pub struct LabelText {
     labels: Vec<Label>,
@@ -29,7 +29,7 @@ impl Model for LabelText {
 }
 
 impl LabelText {
-    /// That of no labels.
+    /// No labels, with an empty text.
     pub fn none(alloc: Global) -> LabelText
         ensures { result ≡ [] }
     {
@@ -39,13 +39,13 @@ impl LabelText {
         }
     }
 
-    /// How many labels it has.
+    /// The number of labels.
     pub fn len(&self) -> usize {
         self.labels.len()
     }
 
-    /// Adds the text of these labels. Where they begin with those of the last call, the others
-    /// alone are written.
+    /// Adds the text of these labels. If they begin with the labels of the last call, only the
+    /// others are written anew.
     pub fn put(&mut self, labels: &[Label], to: &mut String) -> Result<(), Memory>
         ensures { OnOk result (string_bytes to.new ≡ string_bytes to.old
             ++ more_labels labels.now) }
@@ -56,7 +56,7 @@ impl LabelText {
     }
 }
 
-// The text becomes that of these labels. For want of memory it becomes that of none.
+// Makes the text that of these labels. If this is out of memory, it becomes the text of no labels.
 fn follow(kept: &mut Vec<Label>, text: &mut String, labels: &[Label]) -> Result<(), Memory>
     requires { string_bytes text.old ≡ more_labels kept.old.items }
     ensures followed { OnOk result (kept.new.items ≡ labels.now) }
@@ -72,7 +72,7 @@ fn follow(kept: &mut Vec<Label>, text: &mut String, labels: &[Label]) -> Result<
     }
 }
 
-// Adds labels to a text. For want of memory it becomes that of none.
+// Adds labels to a text. If this is out of memory, it becomes the text of no labels.
 fn add(kept: &mut Vec<Label>, text: &mut String, labels: &[Label]) -> Result<(), Memory>
     requires { string_bytes text.old ≡ more_labels kept.old.items }
     ensures added { OnOk result (kept.new.items ≡ kept.old.items ++ labels.now) }

@@ -9,18 +9,18 @@ use jac_value::{Id, Memory, Txt};
 use jac_world::{Assignment, Label};
 use std::alloc::Global;
 
-// For so many viewers a text is kept.
+// The number of viewers for whom a text is kept.
 const VIEWERS: usize = 64;
 
-// So many labels have a text in all. A text has some ten bytes a label.
+// The number of labels that all texts together may have. A text has about ten bytes for each label.
 const LABELS: usize = 1 << 18;
 
-// Fewer labels are written faster than they are compared.
+// Fewer labels than these are written faster than they are compared.
 const FEW: usize = 16;
 
-/// For each of at most 64 viewers the text of the labels in their last audit line. Numbers take
-/// most of the time of a line. So labels that a line has in common with that viewer's last one
-/// aren't written anew.
+/// For each of at most 64 viewers, the text of the labels in their last audit line. Writing numbers
+/// takes most of the time of a line, so labels that a line has in common with that viewer's last
+/// one aren't written anew.
 #[derive(Drop)]
 pub struct LabelTexts {
     texts: Vec<ViewerText>,
@@ -96,7 +96,7 @@ impl LabelTexts {
         Ok(())
     }
 
-    // Each label after a comma.
+    // Adds each label after a comma.
     fn put_rest(
         &mut self,
         alloc: Global,
@@ -118,7 +118,7 @@ impl LabelTexts {
     }
 }
 
-// Drops all texts where they are too many with one of so many labels.
+// Drops all texts if they would have too many labels together with another text of this many.
 fn make_room(texts: &mut Vec<ViewerText>, wanted: usize) {
     if labels_of(texts.as_slice()).saturating_add(wanted) > LABELS {
         texts.clear();
@@ -133,7 +133,7 @@ fn labels_of(texts: &[ViewerText]) -> usize {
     labels
 }
 
-// Takes out the viewer's text, or begins with none.
+// Takes out the viewer's text, or begins with an empty one.
 fn take_text(texts: &mut Vec<ViewerText>, alloc: Global, viewer: &Option<Id>) -> LabelText {
     let place = texts
         .as_slice()
@@ -163,8 +163,8 @@ fn viewer_text(viewer: &Option<Id>, text: LabelText) -> ViewerText {
     }
 }
 
-// Keeps a text as the last one. Beyond 64 the one that wasn't used for longest is dropped, and for
-// want of memory the text itself is.
+// Keeps a text as the last one. Beyond 64 texts, the least recently used one is dropped. If this is
+// out of memory, the text itself is dropped.
 fn keep_text(texts: &mut Vec<ViewerText>, text: ViewerText) {
     if texts.len() >= VIEWERS {
         texts.remove(0);

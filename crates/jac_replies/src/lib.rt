@@ -1,4 +1,4 @@
-//! What is sent for an answer, and its line in the audit.
+//! Makes the bytes of replies and of audit lines.
 #![tactic(auto)]
 
 mod answer;

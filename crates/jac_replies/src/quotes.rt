@@ -1,11 +1,12 @@
-//! Bytes in quotes, put behind what a buffer holds.
+//! Bytes in quotes, added to a buffer.
 ghost use Rattle.std.specs.Prelude.{◌≡◌, ◌<◌, ◌++◌, length, position, true, IfOk, IfSome, OnOk};
 ghost use Rattle.jac_value.specs.Quoted.{quoted_bytes, all_escaped, escaped_byte, hex_escape, hex_digit};
 ghost use Rattle.jac_replies.specs.Escapes.{has_escape};
 
 use jac_value::Memory;
 
-/// Puts the bytes in quotes. What needs no escape is copied at once, up to the next that does.
+/// Adds the bytes in quotes. Bytes that need no escape are copied at once, up to the next byte that
+/// needs one.
 pub(crate) fn put_quoted(bytes: &[u8], to: &mut Vec<u8>) -> Result<(), Memory>
     ensures { OnOk result (to.new.items ≡ to.old.items ++ quoted_bytes bytes.now) }
 {
@@ -25,7 +26,7 @@ fn put_escaped(bytes: &[u8], to: &mut Vec<u8>) -> Result<(), Memory>
     Ok(())
 }
 
-// Puts the bytes up to the first that is escaped, with it, and returns those behind it.
+// Adds the bytes up to the first that is escaped, and its escape. Returns the bytes after it.
 fn put_piece<'b>(bytes: &'b [u8], to: &mut Vec<u8>) -> Result<&'b [u8], Memory>
     ensures put { IfOk result (λ rest. to.new.items ++ all_escaped rest.now ≡ to.old.items
         ++ all_escaped bytes.now) }

@@ -13,13 +13,13 @@ use jac_value::{Bytes, Id, Memory, Txt};
 use jac_world::{Assignment, Label};
 use std::alloc::Global;
 
-// Bytes that a line has beside those that it quotes, with room for some of their escapes.
+// The number of bytes of a line besides those that it quotes, with room for some of their escapes.
 pub(crate) const LINE_ROOM: usize = 64;
 
-/// How the bytes of a reply on a connection are spelled.
+/// The form in which the bytes of a reply on a connection are written.
 #[derive(Clone, Copy, PartialEq, Eq)]
 pub enum Spelling {
-    /// As the line `sent N "BYTES"` of a text.
+    /// As a line of text: `sent N "BYTES"`.
     Quoted,
     /// As they are.
     Raw,
@@ -43,7 +43,7 @@ pub fn reply_line(alloc: Global, method: &[u8], answer: &Answer) -> Result<Bytes
     Ok(Bytes::from_vec(line))
 }
 
-// The room that a line mostly needs in which these bytes are quoted. A longer one grows.
+// The room that a line with these bytes in quotes usually needs. The buffer of a longer line grows.
 fn room_for(bytes: &[u8]) -> usize {
     (bytes.len() + bytes.len() / 16).saturating_add(LINE_ROOM)
 }
@@ -67,7 +67,7 @@ fn printed_body<'a>(method: &[u8], answer: &'a Answer) -> &'a [u8]
     }
 }
 
-/// A request of this method gets no body.
+/// Whether the method is HEAD. The reply to such a request has no body.
 pub fn is_head(method: &[u8]) -> bool
     ensures { result ≡ bytes_eq method.now (codes "HEAD") }
 {
@@ -102,7 +102,7 @@ pub fn sent_reply(
     spell(alloc, spelling, conn, bytes)
 }
 
-/// The reply to what is refused on a connection.
+/// The reply to a refused request on a connection.
 pub fn refusal_reply(
     alloc: Global,
     spelling: Spelling,
@@ -148,8 +148,8 @@ fn sent_line(alloc: Global, conn: u32, bytes: &[u8]) -> Result<Bytes, Memory>
     Ok(Bytes::from_vec(line))
 }
 
-/// What follows the number in the audit's line of a reply: ` STATUS VIEWER SHOWN`, or ` STATUS
-/// VIEWER SHOWN of CONSULTED`.
+/// What follows the number in the audit line of a reply: ` STATUS VIEWER SHOWN`, or ` STATUS VIEWER
+/// SHOWN of CONSULTED`.
 pub fn audit_rest(
     alloc: Global,
     status: u16,
@@ -208,7 +208,7 @@ fn put_shown(shown: &Option<Assignment>, to: &mut String) -> Result<(), Memory>
     Ok(())
 }
 
-// Nothing, or ` of CONSULTED`.
+// Adds nothing, or ` of CONSULTED`.
 pub(crate) fn put_consulted(consulted: &Option<Assignment>, to: &mut String) -> Result<(), Memory>
     ensures { OnOk result (string_bytes to.new ≡ string_bytes to.old
         ++ consulted_text consulted.now) }
@@ -223,7 +223,7 @@ pub(crate) fn put_consulted(consulted: &Option<Assignment>, to: &mut String) -> 
     Ok(())
 }
 
-// The labels, joined by commas.
+// Adds the labels, joined by commas.
 fn put_labels(labels: &Assignment, to: &mut String) -> Result<(), Memory>
     ensures { OnOk result (string_bytes to.new ≡ string_bytes to.old ++ labels_text labels.now) }
 {
@@ -237,7 +237,7 @@ fn put_labels(labels: &Assignment, to: &mut String) -> Result<(), Memory>
     Ok(())
 }
 
-// Each label after a comma.
+// Adds each label after a comma.
 pub(crate) fn put_more(labels: &[Label], to: &mut String) -> Result<(), Memory>
     ensures { OnOk result (string_bytes to.new ≡ string_bytes to.old ++ more_labels labels.now) }
 {

@@ -1,4 +1,4 @@
-//! What is put where a request wasn't answered. It takes no memory.
+//! What is sent if a request wasn't answered. It needs no memory.
 ghost use Rattle.std.specs.Prelude.{◌≡◌, ◌++◌, ◌∷◌, [], true, false, ℕ, Option, None, List, codes, decimal};
 ghost use Rattle.jac_value.specs.Quoted.{quoted_bytes};
 ghost use Rattle.jac_http.specs.Replies.{reply_bytes, status_of_fixed};
@@ -12,7 +12,7 @@ use jac_http::Fixed;
 use jac_keep::Stop;
 use jac_value::Id;
 
-/// The line of the reply to an `ask` line.
+/// The line of such a reply to an `ask` line.
 pub fn failed_reply(stop: Stop, method: &[u8]) -> &'static [u8]
     ensures { result.now ≡ reply_text method.now (status_of_stop stop) None
         (refusal (status_of_stop stop) None).body }
@@ -49,7 +49,7 @@ pub fn still_text(status: Fixed, head: bool) -> &'static [u8]
     }
 }
 
-/// The status between the number of a reply and who looks.
+/// The status in an audit line, between the number of the reply and the viewer.
 pub fn still_status(status: Fixed) -> &'static [u8]
     ensures { result.now ≡ codes " " ++ decimal (status_of_fixed status) ++ codes " " }
 {
