@@ -29,7 +29,7 @@ module _ (app : Application) (s : State) (number : ℕ) (viewer : Option ℕ) wh
   local_back : IsLocalCase app (record s { number = number }) viewer → IsLocalCase app s viewer
   local_back is = record { policies = is.policies; state = is.state; next = is.next; good = is.good; asker = is.asker }
 
-  -- how few policies were evaluated depends on the tables alone
+  -- The bound on evaluations depends only on the tables.
   pub few_numbered : (before now : ℕ) → AreFewEvaluations app s viewer before now → AreFewEvaluations app (record s { number = number }) viewer before now
   few_numbered before now are = record {
     few = λ local labels up live. are.few (local_back local) labels up

@@ -1,4 +1,4 @@
--- Labels that are settled again apart from others, over plain lists.
+-- Settling labels again apart from others, over plain lists.
 use Rattle.std.proofs.Common.{◌≡◌, ◌==◌, ◌&&◌, ◌||◌, ◌⊎◌, inl, inr, ℕ, Bool, true, false, not, List, [], ◌∷◌, Option, Some, None, refl, ap, sym, subst, ◌∙◌}
 use Rattle.std.specs.List.{list_all}
 use Rattle.std.specs.Option.{is_some}
@@ -19,7 +19,7 @@ use Rattle.jac_resolve.specs.ValidCache.{AreSettledBut, AreSettledButIf, IsValid
 use Rattle.jac_resolve.proofs.CacheLemmas.{never, one_of, other_answer, recalled_is, refused_is, valid_passed, unhung}
 use Rattle.jac_resolve.proofs.Underway.{either}
 
--- what holds of no label of one list holds of none that are among them
+-- A label that isn't in a list isn't in a part of it.
 apart_from : (xs ys : List ℕ) → ((k : ℕ) → shown_by xs k ≡ true → shown_by ys k ≡ true) → (k : ℕ) → shown_by ys k ≡ false → shown_by xs k ≡ false
 apart_from xs ys among k apart = one_of (shown_by xs k) (shown_by xs k ≡ false) (λ s. never (shown_by ys k) (shown_by xs k ≡ false) (among k s) apart) (λ e. e)
 
@@ -28,7 +28,7 @@ module _ (app : Application) (worlds : Worlds) (viewer : Option ℕ) (labels sta
   not_stale : (k : ℕ) → shown_by near k ≡ false → shown_by stale k ≡ false
   not_stale k apart = apart_from stale near linked.among k apart
 
-  -- apart from what is near the same are shown
+  -- Apart from near labels, the same labels are shown.
   same : (k : ℕ) → shown_by near k ≡ false → shown_by rest k ≡ shown_by labels k
   same k apart = cut k ∙ ap (λ b. not b && shown_by labels k) apart
 
@@ -39,7 +39,7 @@ module _ (app : Application) (worlds : Worlds) (viewer : Option ℕ) (labels sta
       by_near true e h = absurd cc
       by_near false e h = (e, h)
 
-  -- what is remembered of a label that isn't near depends on none that is
+  -- The cached result of a label that isn't near depends on no near label.
   recalled_apart : (j : ℕ) → shown_by near j ≡ false → (v w : ℕ → Bool) → ((i : ℕ) → shown_by near i ≡ false → v i ≡ w i) → recall answers j v ≡ recall answers j w
   recalled_apart j apart v w alike =
       watched.each j v w
@@ -54,7 +54,7 @@ module _ (app : Application) (worlds : Worlds) (viewer : Option ℕ) (labels sta
       let was = was_shown k s in
       recalled_apart k was.0 (shown_by rest) (shown_by labels) same ∙ stays_if k was.0 (kept.stays k was.1)
 
-  -- without what is near it stands as between two tries
+  -- Without the near labels, the invariant between two tries holds.
   pub underway_apart : IsUnderway app worlds viewer rest answers
   underway_apart = record {
     right = right;
@@ -68,7 +68,7 @@ module _ (app : Application) (worlds : Worlds) (viewer : Option ℕ) (labels sta
   stays_or j (inl e) = inl e
   stays_or j (inr p) = inr (p.1 (shown_by labels))
 
-  -- what refuses a label that isn't near isn't near either
+  -- If a label refuses one that isn't near, it isn't near either.
   refuses_apart : (k j : ℕ) → shown_by near k ≡ false → with_label k (shown_by labels) j ≡ true → recall answers j (with_label k (shown_by labels)) ≡ Some false → shown_by near j ≡ false
   refuses_apart k j apart s is = one_of (shown_by near j) (shown_by near j ≡ false) (λ n. near_if n (k == j) refl s) (λ e. e)
     where
@@ -79,7 +79,7 @@ module _ (app : Application) (worlds : Worlds) (viewer : Option ℕ) (labels sta
           (λ free. other_answer (recall answers j (shown_by labels)) (shown_by near j ≡ false) (sym (unhung answers j k free (shown_by labels)) ∙ is) (stays_or j (kept.stays j h)))
 
   module _ (now tried : List ℕ) (known : PolicyMemo) (live : AreLiveOf app worlds near tried) (within : Within tried rest now) (retains : Retains rest now answers known) where
-    -- apart from what is near the same are shown after the tries
+    -- Apart from near labels, the same labels are shown after the tries.
     pub same_apart : (k : ℕ) → shown_by near k ≡ false → shown_by now k ≡ shown_by labels k
     same_apart k apart = bool_eq (shown_by now k) (shown_by rest k) (λ s. was_if (within k s)) (retains.shows k) ∙ same k apart
       where
@@ -111,11 +111,11 @@ module _ (app : Application) (worlds : Worlds) (viewer : Option ℕ) (labels sta
         (λ n. refused_is app worlds viewer known k (shown_by now) underway.right (refused.each k (live.every k lives n) hidden))
         (λ apart. refused_now underway.right k apart (kept.full k lives (sym (same_apart k apart) ∙ hidden) (not_stale k apart))))
 
--- the labels that a cache has
+-- The labels of a cache.
 pub kept_some : (app : Application) (worlds : Worlds) (viewer : Option ℕ) (cache : ViewerCache) (labels : List ℕ) → cache.labels ≡ Some labels → IsValidCache app worlds viewer cache → AreSettledBut app worlds cache.answers labels cache.stale
 kept_some app worlds viewer cache labels are valid = subst (λ (o : Option (List ℕ)). AreSettledButIf app worlds cache.answers o cache.stale) are valid.kept
 
--- the same are shown in two caches
+-- Two caches show the same labels.
 shows_alike : (old new : Option (List ℕ)) (labels now : List ℕ) (k : ℕ) → old ≡ Some labels → new ≡ Some now → shown_by now k ≡ shown_by labels k → shown_by (cache_labels new) k ≡ shown_by (cache_labels old) k
 shows_alike old new labels now k is is_now same = ap (λ o. shown_by (cache_labels o) k) is_now ∙ same ∙ sym (ap (λ o. shown_by (cache_labels o) k) is)
 
@@ -135,12 +135,12 @@ widened_apart old new near labels now linked is is_now same more = record {
   same = λ k apart. shows_alike old.labels new.labels labels now k is is_now (same k (apart_from near new.stale more k apart));
 }
 
--- what holds between two widenings
+-- The invariant between two widenings.
 pub record StandsWidened (app : Application) (worlds : Worlds) (viewer : Option ℕ) (old new : ViewerCache) : Type 0 where
   pub valid : IsValidCache app worlds viewer new
   pub widened : IsWidened old new
 
--- links to labels that are all there
+-- Links to labels that are all in the list.
 
 all_if : (p : ℕ → Bool) (x k : ℕ) (b same rest later : Bool) → p x ≡ b → (x == k) ≡ same → (b && rest) ≡ true → (same || later) ≡ true → (rest ≡ true → later ≡ true → p k ≡ true) → p k ≡ true
 all_if p x k true true rest later e is all s on = ap p (sym ((Decides-eqb x k).0 is)) ∙ e

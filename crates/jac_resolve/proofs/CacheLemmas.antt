@@ -1,4 +1,4 @@
--- What was settled for somebody, over plain lists.
+-- A viewer's cache, over plain lists.
 use Rattle.std.proofs.Common.{◌≡◌, ◌==◌, ◌||◌, ◌⊎◌, inl, inr, ℕ, Bool, true, false, List, [], Option, Some, None, refl, ap, sym, subst, ◌∙◌}
 use Rattle.std.specs.Option.{is_some}
 use Rattle.std.proofs.lemmas.Bool.Decides.{Decides-eqb}
@@ -14,7 +14,8 @@ use Rattle.jac_resolve.specs.RightMemo.{AreRight, IsPassed, IsUnderway, Remember
 use Rattle.jac_resolve.specs.Rounds.{AreLive}
 use Rattle.jac_resolve.specs.ValidCache.{AreSettledBut, AreSettledButIf, IsAtRest, StandsRefused, IsValidCache}
 
--- whether a label is shown is nothing to what is remembered of one whose answers don't depend on it
+-- If the results of a label don't depend on a second one, whether the second one is shown doesn't
+-- change what is recalled.
 pub unhung : (answers : PolicyMemo) (j k : ℕ) → depends answers j k ≡ false → (w : ℕ → Bool) → recall answers j (with_label k w) ≡ recall answers j w
 unhung answers j k absent w = recall_by (given_of answers.given j) (with_label k w) w (λ i h. differs i h (k == i) refl)
   where
@@ -22,7 +23,7 @@ unhung answers j k absent w = recall_by (given_of answers.given j) (with_label k
     differs i h true e = absurd (let same : true ≡ false = sym h ∙ ap (λ (n : ℕ). depends answers j n) (sym ((Decides-eqb k i).0 e)) ∙ absent in cc)
     differs i h false e = refl
 
--- a label that is one of two kinds
+-- Two cases, by whether a test of a label is true.
 pub one_of : (b : Bool) (P : Type 0) → (b ≡ true → P) → (b ≡ false → P) → P
 one_of true P there absent = there refl
 one_of false P there absent = absent refl
@@ -35,7 +36,7 @@ other_answer o P is (inl e) = absurd (let both : Some false ≡ Some true = sym 
 other_answer o P is (inr e) = absurd (let both : Some false ≡ None = sym is ∙ e in cc)
 
 module _ (app : Application) (worlds : Worlds) (viewer : Option ℕ) where
-  -- what is remembered is what the policy answers
+  -- A cached result is the result of the policy.
   pub recalled_is : (answers : PolicyMemo) (k : ℕ) (w : ℕ → Bool) (b : Bool) → AreRight app worlds viewer answers → is_some (recall answers k w) ≡ true → is_allowed app (worlds w) viewer k ≡ b →
       recall answers k w ≡ Some b
   recalled_is answers k w b right some allowed = by_answer (recall answers k w) refl some
@@ -54,7 +55,7 @@ module _ (app : Application) (worlds : Worlds) (viewer : Option ℕ) where
     refused = recalled_is answers one.label (with_label k w) false right one.known one.forbidden;
   }
 
-  -- labels that a pass left, whatever is stale
+  -- The labels after a pass, with any stale labels.
   pub valid_passed : (labels stale : List ℕ) (answers : PolicyMemo) → IsUnderway app worlds viewer labels answers → ((k : ℕ) → shown_by labels k ≡ true → IsLiveLabel app worlds k) →
       ((k : ℕ) → IsLiveLabel app worlds k → shown_by labels k ≡ false → StandsRefused answers k (shown_by labels)) →
       IsValidCache app worlds viewer (record { labels = Some labels; answers = answers; stale = stale })
@@ -68,14 +69,14 @@ module _ (app : Application) (worlds : Worlds) (viewer : Option ℕ) where
     };
   }
 
-  -- after a pass over all live labels
+  -- After a pass over all live labels.
   pub valid_all : (labels live stale : List ℕ) (answers : PolicyMemo) → AreLive app worlds live → IsPassed app worlds viewer answers live labels →
       IsValidCache app worlds viewer (record { labels = Some labels; answers = answers; stale = stale })
   valid_all labels live stale answers are passed =
       valid_passed labels stale answers passed.underway (λ k s. are.only k (passed.within k s))
       (λ k lives hidden. refused_is answers k (shown_by labels) passed.underway.right (passed.refused.each k (are.every k lives) hidden))
 
-  -- all live labels are tried from none on
+  -- All live labels are tried, beginning with none shown.
   pub underway_valid : (cache : ViewerCache) → IsValidCache app worlds viewer cache → IsUnderway app worlds viewer [] cache.answers
   underway_valid cache valid = record {
     right = valid.right;
@@ -84,7 +85,7 @@ module _ (app : Application) (worlds : Worlds) (viewer : Option ℕ) where
     fitted = record { each = λ k s. absurd cc };
   }
 
-  -- a cache with none stale holds labels that are settled
+  -- The labels of a cache without stale labels are settled.
   pub settled_valid : (cache : ViewerCache) (labels : List ℕ) → IsAscending labels → cache.labels ≡ Some labels → IsAtRest cache → IsValidCache app worlds viewer cache → IsSettled app worlds viewer labels
   settled_valid cache labels ascending are rests valid =
       settled (subst (λ (stale : List ℕ). AreSettledBut app worlds cache.answers labels stale) rests.stale (subst (λ (o : Option (List ℕ)). AreSettledButIf app worlds cache.answers o cache.stale) are valid.kept))

@@ -30,7 +30,7 @@ use Rattle.jac_policy_cache.proofs.Rising.{bool_eq}
 use Rattle.jac_resolve.proofs.Standing.{any_stands, model_there}
 use Rattle.jac_plain.specs.Shown.{worlds_of}
 
--- each element, by recursion and by index
+-- A property of each element, by recursion and by index.
 pub all_at : {X : Type 0} (P : X → Type 0) (xs : List X) → AllByRecursion P xs → All P xs
 all_at P [] a k d lt = absurd (omega arith)
 all_at P (x ∷ xs) a zero d lt = a.0
@@ -47,11 +47,11 @@ all_mapped P Q (x ∷ xs) f a = (f x a.0, all_mapped P Q xs f a.1)
 id_small : (id m : ℕ) → is_id_of id m ≡ true → id < 2 ^ 124
 id_small id m is = grind (arith, nat_tests, is)
 
--- the same of the model's number in another form
+-- The same with the model's number in another form.
 made_one : (m n id : ℕ) → m ≡ n → is_id_of id m ≡ true → is_id_of id n ≡ true
 made_one m n id same is = ap (is_id_of id) (sym same) ∙ is
 
--- the rows of a model in a sound state
+-- The rows of a model in a sound state.
 sound_rows : (next base : ℕ) (tables : List (List Row)) (m : ℕ) → AreSound next base tables → AllByRecursion (λ (r : Row). IsMade (base + m) next r.id) (rows_of tables m)
 sound_rows next base [] zero s = tt
 sound_rows next base [] (suc m) s = tt
@@ -67,7 +67,7 @@ in_range s m has =
     all_at (λ (r : Row). r.id < 2 ^ 124) (rows_of s.tables m)
     (all_mapped (λ (r : Row). IsMade (0 + m) has.next r.id) (λ (r : Row). r.id < 2 ^ 124) (rows_of s.tables m) (λ r made. id_small r.id (0 + m) made.is_one) made)
 
--- one of two
+-- Two cases, if one of two tests is true.
 
 either : (a b : Bool) (P : Type 0) → (a || b) ≡ true → (a ≡ true → P) → (b ≡ true → P) → P
 either true b P h p q = p refl
@@ -89,7 +89,7 @@ first_has xs ys k h = list_any-append (λ x. x == k) xs ys ∙ or_left (shown_by
 second_has : (xs ys : List ℕ) (k : ℕ) → shown_by ys k ≡ true → shown_by (xs ++ ys) k ≡ true
 second_has xs ys k h = list_any-append (λ x. x == k) xs ys ∙ or_right (shown_by xs k) (shown_by ys k) h
 
--- the labels of one record
+-- The labels of one record.
 
 record IsOf (id n k : ℕ) : Type 0 where
   pub of_record : record_of_label k ≡ id
@@ -112,7 +112,7 @@ below_has id (suc n) k is =
     last_is : (id n k : ℕ) → record_of_label k ≡ id → group_of_label k < suc n → n ≤ group_of_label k → (label_of id n == k) ≡ true
     last_is id n k e lt le = (Decides-eqb (label_of id n) k).1 (omega (arith, e, lt, le))
 
--- the labels of the records of a table
+-- The labels of the records of a table.
 
 record IsAmong (n : ℕ) (rows : List Row) (k : ℕ) : Type 0 where
   pub row : list_any (λ (r : Row). r.id == record_of_label k) rows ≡ true
@@ -130,7 +130,7 @@ rows_have n k (r ∷ rows) is = either (r.id == record_of_label k) (list_any (λ
     (λ a. first_has (labels_below r.id n) (labels_of_rows n rows) k (below_has r.id n k (record { of_record = sym ((Decides-eqb r.id (record_of_label k)).0 a); of_group = is.of_group })))
     (λ b. second_has (labels_below r.id n) (labels_of_rows n rows) k (rows_have n k rows (record { row = b; of_group = is.of_group })))
 
--- the labels of the records of all tables
+-- The labels of the records of all tables.
 
 record IsBefore (models : List Entity) (tables : List (List Row)) (n k : ℕ) : Type 0 where
   pub model : ℕ
@@ -154,7 +154,7 @@ before_has models tables (suc n) k m lt is =
           rows_have (length (groups_at models n)) k (rows_of tables n) (subst (λ (j : ℕ). IsAmong (length (groups_at models j)) (rows_of tables j) k) same is))
     ]
 
--- a record with rows is shown by some assignment
+-- Some assignment shows a record that has rows.
 
 record IsSeen (id : ℕ) (rows : List Row) : Type 0 where
   pub seen_by : ℕ → Bool
@@ -181,14 +181,14 @@ row_if_seen : (w : ℕ → Bool) (id : ℕ) (rows : List Row) → list_any (λ (
 row_if_seen w id [] h = h
 row_if_seen w id (r ∷ rows) h = row_first w id r rows (r.id == id) refl h (row_if_seen w id rows)
 
--- the model of a row that stands in a table of a sound state
+-- The model of a row in a table of a sound state.
 model_is : (id m : ℕ) (next : ℕ) (rows : List Row) → AllByRecursion (λ (r : Row). IsMade (0 + m) next r.id) rows → list_any (λ (r : Row). r.id == id) rows ≡ true → model_of_id id ≡ m
 model_is id m next [] made h = absurd cc
 model_is id m next (r ∷ rows) made h = either (r.id == id) (list_any (λ (x : Row). x.id == id) rows) (model_of_id id ≡ m) h
     (λ a. let e : r.id ≡ id = (Decides-eqb r.id id).0 a in let o = made.0.of_model in subst (λ (j : ℕ). model_of_id j ≡ m) e (omega (arith, o)))
     (λ b. model_is id m next rows made.1 b)
 
--- groups and models by their places
+-- Groups and models by their places.
 
 group_there : (gs : List FieldGroup) (g : ℕ) → g < length gs → is_some_group (slice_get gs g) ≡ true
 group_there [] g lt = absurd (omega arith)
@@ -213,7 +213,7 @@ record_stands s w k =
     any_stands w (record_of_label k) (rows_of s.tables (model_of_id (record_of_label k)))
     ∙ ap (λ rows. stands (record_with (record_of_label k) rows)) (sym (rows_of-project w s.tables (model_of_id (record_of_label k))))
 
--- a label of the records that have rows is live
+-- A label of the records that have rows is live.
 live_if_among : (app : Application) (s : State) (k : ℕ) → CanHold (rows_of s.tables (model_of_id (record_of_label k))) →
     IsAmong (length (groups_at app.models (model_of_id (record_of_label k)))) (rows_of s.tables (model_of_id (record_of_label k))) k → IsLiveLabel app (worlds_of s) k
 live_if_among app s k can is =
@@ -234,7 +234,7 @@ among_if_live app s k live =
       of_group = there_within (groups_at app.models m) (group_of_label k) live.group;
     }
 
--- the labels that were collected are the live ones
+-- The collected labels are the live ones.
 pub are_live : (app : Application) (s : State) (collected labels : List ℕ) → HasSoundTables s → Collects app.models s.tables (length app.models) collected → ((k : ℕ) → shown_by labels k ≡ shown_by collected k) → AreLive app (worlds_of s) labels
 are_live app s collected labels sound collects same = record {
   only = λ k h. only k (in_before app.models s.tables (length app.models) k collects.few (ap (λ ls. shown_by ls k) (sym collects.are) ∙ sym (same k) ∙ h));
@@ -251,7 +251,7 @@ are_live app s collected labels sound collects same = record {
         (subst (λ (j : ℕ). CanHold (rows_of s.tables j)) (sym m) (collects.guards is.model is.before (let g = is.among.of_group in omega (arith, g))))
         (subst (λ (j : ℕ). IsAmong (length (groups_at app.models j)) (rows_of s.tables j) k) (sym m) is.among)
 
--- a model without groups has no labels
+-- A model without groups has no labels.
 
 none_below : (rows : List Row) → labels_of_rows 0 rows ≡ []
 none_below [] = refl
@@ -260,7 +260,7 @@ none_below (r ∷ rows) = none_below rows
 pub no_groups : (old : List ℕ) (groups : ℕ) (rows : List Row) → groups ≡ 0 → old ≡ old ++ labels_of_rows groups rows
 no_groups old groups rows none = sym (append-nil old) ∙ ap (λ ls. old ++ ls) (sym (none_below rows)) ∙ ap (λ (n : ℕ). old ++ labels_of_rows n rows) (sym none)
 
--- one model more
+-- One more model.
 
 length-groups : (gs : List Group) → length (groups_of gs) ≡ length gs
 length-groups [] = refl
@@ -307,7 +307,7 @@ live_by_rows app s k can = (
   }),
 )
 
--- the labels that were collected are those of all groups of every record that has a row
+-- The collected labels are those of all groups of every record that has a row.
 pub by_rows : (app : Application) (s : State) (collected labels : List ℕ) → HasSoundTables s → Collects app.models s.tables (length app.models) collected →
     ((k : ℕ) → shown_by labels k ≡ shown_by collected k) → (k : ℕ) → shown_by labels k ≡ (has_group app k && has_row s k)
 by_rows app s collected labels sound collects same k =
@@ -321,9 +321,9 @@ by_rows app s collected labels sound collects same k =
     ∙ before_has app.models s.tables (length app.models) k m (model_within app.models m (group_of_label k) of_group)
     (record { row = right_true (has_group app k) (has_row s k) h; of_group = of_group }))
 
--- one label, told by its own record
+-- One label, by its own record.
 
--- the first row is seen, where its guard can hold
+-- If its guard can hold, the first row is shown by some assignment.
 pub first_is_seen : (rows : List Row) (r : Row) → Some r ≡ slice_get rows 0 → holds (guard_wants r.guard) r.guard ≡ true → AreSeen rows
 first_is_seen [] r there can = absurd (let e : Some r ≡ None = there in cc)
 first_is_seen (x ∷ rows) r there can =
@@ -336,7 +336,7 @@ not_live app worlds k none = (λ e. absurd (true≢false (sym e)), λ live. absu
 abbrev any_seen : (ℕ → Bool) → List Row → Bool
 any_seen w rows = list_any (λ (r : Row). holds w r.guard) rows
 
--- its record's rows tell whether it is live
+-- The rows of its record say whether a label is live.
 pub live_by_record : (app : Application) (s : State) (k : ℕ) (rows : List Row) (b : Bool) → rows ≡ alternatives (record_of_label k) (rows_of s.tables (model_of_id (record_of_label k))) →
     has_group app k ≡ true → CanBeSeen rows b → ((b ≡ true) ↔ IsLiveLabel app (worlds_of s) k)
 live_by_record app s k rows true are group can = (

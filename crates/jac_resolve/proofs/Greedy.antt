@@ -26,7 +26,7 @@ within_if : (same was start among : Bool) → (same ≡ true → among ≡ true)
 within_if true was start among there later s = or_right start among (there refl)
 within_if false was start among there later s = later s
 
--- what was added is among the labels
+-- Each label that was added is among the labels.
 pub stays_within : (labels start old new : List ℕ) (k : ℕ) (one : Bool) → shown_by labels k ≡ true → Within labels start old → MayAdd k old new one → Within labels start new
 stays_within labels start old new k true s within g j h =
     within_if (k == j) (shown_by old j) (shown_by start j) (shown_by labels j)
@@ -45,7 +45,7 @@ within_then labels start old new before more j s = then_if (shown_by old j) (sho
     then_if true a b there h = there refl
     then_if false a b there h = or_right a b h
 
--- what was shown stays, and what was remembered
+-- What was shown stays shown, and what was cached stays cached.
 pub retains_same : (labels : List ℕ) (answers : PolicyMemo) → Retains labels labels answers answers
 retains_same labels answers = record { shows = λ j s. s; grown = grown_same answers }
 
@@ -65,7 +65,7 @@ retains_on start old new first answers known k false before g grown = record {
   grown = grown_then first answers known before.grown grown;
 }
 
--- the labels that are left are among all
+-- The labels that are left are among all labels.
 pub left_is_shown : (xs : List ℕ) (i k : ℕ) → shown_by (drop i xs) k ≡ true → shown_by xs k ≡ true
 left_is_shown [] zero k h = h
 left_is_shown [] (suc i) k h = h
@@ -76,7 +76,7 @@ pub first_is_shown : (xs : List ℕ) (i x : ℕ) → x ≡ get_or xs i x → i <
 first_is_shown xs i x item below = left_is_shown xs i x (rw (next xs x i item below) (rw (itself x) refl))
 
 module _ (app : Application) (worlds : Worlds) (viewer : Option ℕ) where
-  -- of the labels that were tried none can be added, unless one was
+  -- None of the labels that were tried can be added, unless one was added.
   abbrev pub FillsBut : PolicyMemo → List ℕ → List ℕ → List ℕ → Bool → Type 0
   FillsBut answers labels left new true = ⊤
   FillsBut answers labels left new false = (k : ℕ) → shown_by labels k ≡ true → shown_by left k ≡ false → shown_by new k ≡ false → RemembersForbidden app worlds viewer answers (with_label k (shown_by new))
@@ -85,7 +85,7 @@ module _ (app : Application) (worlds : Worlds) (viewer : Option ℕ) where
   filled answers labels left new true none fills = tt
   filled answers labels left new false none fills = record { each = λ k among hidden. fills k among (ap (λ l. shown_by l k) none) hidden }
 
-  -- what is known of the labels that are shown, and of what is remembered, before those that are left are tried
+  -- The invariant of a round, before the labels that are left are tried.
   pub record Round (labels left new : List ℕ) (answers : PolicyMemo) (added : Bool) : Type 0 where
     pub underway : IsUnderway app worlds viewer new answers
     pub fills : FillsBut answers labels left new added
@@ -112,7 +112,7 @@ module _ (app : Application) (worlds : Worlds) (viewer : Option ℕ) where
           fills_if known x k (x == k) (shown_by more k) old refl left hidden t
           (λ s. refused_still app worlds viewer (with_label k (shown_by old)) answers known grown (before k among s hidden))
 
-  -- one label more was tried
+  -- One more label was tried.
   pub round_on : (labels left old new : List ℕ) (answers known : PolicyMemo) (x : ℕ) (more : List ℕ) (added one : Bool) → left ≡ x ∷ more → Grown answers known → Round labels left old answers added →
       MayAdd x old new one → Tries app worlds viewer known x old new one → IsUnderway app worlds viewer new known → Round labels more new known (added || one)
   round_on labels left old new answers known x more added one is grown before g t underway = record {
@@ -120,14 +120,14 @@ module _ (app : Application) (worlds : Worlds) (viewer : Option ℕ) where
     fills = fills_on answers known labels more old new x added one grown (subst (λ (l : List ℕ). FillsBut answers labels l old added) is before.fills) g t;
   }
 
-  -- before any was tried
+  -- Before any label is tried.
   pub round_start : (labels new : List ℕ) (answers : PolicyMemo) → IsUnderway app worlds viewer new answers → Round labels labels new answers false
   round_start labels new answers underway = record {
     underway = underway;
     fills = λ k among left hidden. absurd (let both : true ≡ false = sym among ∙ left in cc);
   }
 
-  -- where none of the live labels can be added, the labels are settled
+  -- If none of the live labels can be added, the labels are settled.
   pub passed_settled : (answers : PolicyMemo) (live labels : List ℕ) → IsAscending labels → AreLive app worlds live → IsPassed app worlds viewer answers live labels → IsSettled app worlds viewer labels
   passed_settled answers live labels ascending are passed = record {
     ascending = ascending;
@@ -142,12 +142,13 @@ none_left [] (suc i) past = refl
 none_left (x ∷ xs) zero past = absurd (omega (arith, past))
 none_left (x ∷ xs) (suc i) past = none_left xs i (omega (arith, past))
 
--- what is remembered is right, and what was asked so far
+-- The cached results are right, and so is what was checked so far.
 pub record SoFar (right asked : Type 0) : Type 0 where
   pub remembered : right
   pub so_far : asked
 
--- what is known in a round, told or not, with a count that doesn't fall, and what is known beside
+-- The invariant of a round: what holds even if the contents of the keeper aren't known, and a
+-- further property.
 pub record InRound (labels start new : List ℕ) (added : Bool) (old known : PolicyMemo) (before now : ℕ) (beside : Type 0) : Type 0 where
   pub later : before ≤ now
   pub advances : Advances labels start new added
@@ -155,7 +156,7 @@ pub record InRound (labels start new : List ℕ) (added : Bool) (old known : Pol
   pub retains : Retains start new old known
   pub working : beside
 
--- and between two rounds
+-- The invariant between two rounds.
 pub record InRounds (labels start new : List ℕ) (old known : PolicyMemo) (before now : ℕ) (beside : Type 0) : Type 0 where
   pub later : before ≤ now
   pub within : Within labels start new

@@ -1,4 +1,4 @@
--- Those of some labels that are live.
+-- The live labels among some labels.
 use Rattle.std.proofs.Common.{◌≡◌, ◌∙◌, ◌↔◌, sym, refl, ap, subst, ℕ, ◌==◌, ◌||◌, Bool, true, false, true≢false, if◌then◌else◌, List, [], ◌∷◌, ◌++◌, append-nil}
 use Rattle.std.proofs.lemmas.Bool.Decides.{Decides-eqb}
 use Rattle.std.proofs.lemmas.List.Folds.{list_any-append}
@@ -9,7 +9,7 @@ use Rattle.jac_plain.specs.Requests.{Worlds}
 use Rattle.jac_resolve.specs.Live.{AreLiveOf}
 
 module _ (app : Application) (worlds : Worlds) where
-  -- those that were asked so far: each live one among them is there
+  -- The invariant of the search: each live label among those that were checked is in the list.
   pub record AreLiveBut (labels left live : List ℕ) : Type 0 where
     pub within : (k : ℕ) → shown_by live k ≡ true → shown_by labels k ≡ true
     pub only : (k : ℕ) → shown_by live k ≡ true → IsLiveLabel app worlds k
@@ -26,7 +26,7 @@ module _ (app : Application) (worlds : Worlds) where
   skipped_if x k true a m e live dead h = absurd (true≢false (sym (dead (subst (λ (j : ℕ). IsLiveLabel app worlds j) (sym ((Decides-eqb x k).0 e)) live))))
   skipped_if x k false a m e live dead h = h
 
-  -- a label that isn't live
+  -- A label that isn't live.
   skipped : (labels left live : List ℕ) (x : ℕ) (more : List ℕ) → left ≡ x ∷ more → (IsLiveLabel app worlds x → false ≡ true) → AreLiveBut labels left live → AreLiveBut labels more live
   skipped labels left live x more is dead before = record {
     within = before.within;
@@ -47,7 +47,7 @@ module _ (app : Application) (worlds : Worlds) where
   moved false true m h = refl
   moved false false m h = h
 
-  -- a label that is live
+  -- A label that is live.
   pushed : (labels left live : List ℕ) (x : ℕ) (more : List ℕ) → left ≡ x ∷ more → shown_by labels x ≡ true → IsLiveLabel app worlds x → AreLiveBut labels left live → AreLiveBut labels more (live ++ x ∷ [])
   pushed labels left live x more is among lives before = record {
     within = λ k s. among_if x k (x == k) (shown_by live k) (λ (j : ℕ). shown_by labels j ≡ true) refl among (before.within k) (sym (shown_with live x k) ∙ s);
@@ -57,7 +57,7 @@ module _ (app : Application) (worlds : Worlds) where
         ∙ moved (shown_by live k) (x == k) (shown_by more k) (ap (λ (l : List ℕ). shown_by live k || shown_by l k) (sym is) ∙ before.every k l s);
   }
 
-  -- one label more was asked
+  -- One more label was checked.
   pub live_on : (labels left live : List ℕ) (x : ℕ) (more new : List ℕ) (b : Bool) → left ≡ x ∷ more → shown_by labels x ≡ true → ((b ≡ true) ↔ IsLiveLabel app worlds x) →
       new ≡ live ++ (if b then x ∷ [] else []) → AreLiveBut labels left live → AreLiveBut labels more new
   live_on labels left live x more new true is among tells added before =
@@ -69,7 +69,7 @@ module _ (app : Application) (worlds : Worlds) where
   or_none true m none h = refl
   or_none false m none h = absurd (true≢false (sym h ∙ none))
 
-  -- none is left
+  -- No label is left.
   pub live_all : (labels left live : List ℕ) → left ≡ [] → AreLiveBut labels left live → AreLiveOf app worlds labels live
   live_all labels left live none so_far = record {
     within = so_far.within;

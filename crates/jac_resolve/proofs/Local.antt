@@ -27,7 +27,7 @@ module _ (models : List Entity) (v : Bool) where
   groups_local (e ∷ ms) zero h = (and_parts (are_local_groups models v e.groups) (are_local_models models v ms) h).0
   groups_local (e ∷ ms) (suc m) h = groups_local ms m (and_parts (are_local_groups models v e.groups) (are_local_models models v ms) h).1
 
--- the policy of a label's group is local
+-- The policy of a label's group is local.
 pub policy_local : (app : Application) (k : ℕ) (g : FieldGroup) → is_local_app app ≡ true → Some g ≡ labelled_group app k → is_local app.models (is_free_viewer app) g.policy ≡ true
 policy_local app k g h e =
     ap (has_local app.models (is_free_viewer app)) e

@@ -27,14 +27,14 @@ valid_empty app worlds viewer cache empty = record {
   kept = subst (λ (o : Option (List ℕ)). AreSettledButIf app worlds cache.answers o cache.stale) (sym empty.labels) tt;
 }
 
--- something is recalled of those alone that were asked
+-- A label for which a result is recalled has cached results.
 asked_if : (given : Option LabelMemo) (w : ℕ → Bool) (b : Bool) → recall_in given w ≡ Some b → is_some given ≡ true
 asked_if None w b is = absurd cc
 asked_if (Some given) w b is = refl
 
 module _ (app : Application) (worlds later : Worlds) (viewer : Option ℕ) (invalidation : Invalidation) (old new : ViewerCache) (valid : IsValidCache app worlds viewer old) (invalidates : Invalidates invalidation viewer old new)
     (covered : IsCovered app worlds later invalidation viewer) where
-  -- what is still remembered was remembered, of a label that isn't affected
+  -- A result that is still cached was cached before, for a label that isn't affected.
   still : (k : ℕ) (w : ℕ → Bool) (b : Bool) → recall new.answers k w ≡ Some b → (affects invalidation viewer k ≡ false) × (recall old.answers k w ≡ Some b)
   still k w b is = still_if (affects invalidation viewer k) refl (sym (invalidates.recalls k w) ∙ is)
     where
@@ -92,7 +92,7 @@ module _ (app : Application) (worlds later : Worlds) (viewer : Option ℕ) (inva
       stays_or j (inl e) = inl e
       stays_or j (inr p) = inr (p.1 (shown_by labels))
 
-      -- what refuses a label that isn't stale isn't affected
+      -- A label that refuses one that isn't stale isn't affected.
       refuses_untouched : (k j : ℕ) → shown_by new.stale k ≡ false → with_label k (shown_by labels) j ≡ true → recall old.answers j (with_label k (shown_by labels)) ≡ Some false → affects invalidation viewer j ≡ false
       refuses_untouched k j absent s is = one_of (affects invalidation viewer j) (affects invalidation viewer j ≡ false) (λ t. not_affected t (k == j) refl s) (λ e. e)
         where

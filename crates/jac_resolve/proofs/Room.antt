@@ -1,4 +1,4 @@
--- How much there is left to ask, over plain lists.
+-- The bound on evaluations that are left, over plain lists.
 use Rattle.std.proofs.Common.{◌≡◌, ◌≢◌, ◌==◌, ◌≤◌, ◌+◌, ◌*◌, ◌&&◌, ◌||◌, ℕ, zero, suc, Bool, true, false, if◌then◌else◌, List, [], ◌∷◌, Option, Some, None, length, refl, ap, sym, subst, ◌∙◌, arith}
 use Rattle.std.specs.Option.{is_some}
 use Rattle.std.proofs.lemmas.Bool.Decides.{Decides-eqb}
@@ -26,7 +26,7 @@ less_if true false h = absurd (let e : false ≡ true = h refl in cc)
 less_if false true h = omega arith
 less_if false false h = omega arith
 
--- where what was known stays known, nothing more is unknown
+-- If known results stay known, no more are unknown.
 unknown_less : (n id : ℕ) (f g : (ℕ → Bool) → Option Bool) (w : ℕ → Bool) → ((v : ℕ → Bool) → is_some (f v) ≡ true → is_some (g v) ≡ true) → unknown_signs n id g w ≤ unknown_signs n id f w
 unfolding unknown_signs
 unknown_less zero id f g w more = less_if (is_some (f w)) (is_some (g w)) (more w)
@@ -35,11 +35,11 @@ unknown_less (suc n) id f g w more =
     let b = unknown_less n id f g (with_sign (label_of id n) false w) more in
     omega (arith, a, b)
 
--- what depends on labels of a record alone
+-- Results that depend only on labels of a record.
 abbrev pub DependsOn : ℕ → ((ℕ → Bool) → Option Bool) → Type 0
 DependsOn id f = (v w : ℕ → Bool) → ((j : ℕ) → record_of_label j ≡ id → v j ≡ w j) → f v ≡ f w
 
--- alike on the labels of a record, from a group on
+-- Assignments that agree on the labels of a record, from a group on.
 abbrev pub AlikeFrom : ℕ → ℕ → (ℕ → Bool) → (ℕ → Bool) → Type 0
 AlikeFrom n id u w = (j : ℕ) → record_of_label j ≡ id → n ≤ group_of_label j → u j ≡ w j
 
@@ -55,7 +55,7 @@ falls_at None (Some x) e h = omega arith
 falls_at None None e h = absurd cc
 falls_at (Some y) b e h = absurd cc
 
--- what is known now and wasn't is no longer counted
+-- A result that becomes known lowers the count of unknown ones.
 unknown_falls : (n id : ℕ) (f g : (ℕ → Bool) → Option Bool) (u w : ℕ → Bool) → DependsOn id f → DependsOn id g → ((v : ℕ → Bool) → is_some (f v) ≡ true → is_some (g v) ≡ true) →
     f u ≡ None → is_some (g u) ≡ true → AlikeFrom n id u w → unknown_signs n id g w + 1 ≤ unknown_signs n id f w
 unfolding unknown_signs
@@ -74,7 +74,7 @@ unknown_falls (suc n) id f g u w f_own g_own more none some alike =
     falls_if true is here other = let a = here true is in let b = other false in omega (arith, a, b)
     falls_if false is here other = let a = here false is in let b = other true in omega (arith, a, b)
 
--- two to this power
+-- Two to this power.
 doubled : ℕ → ℕ
 doubled zero = 1
 doubled (suc n) = doubled n + doubled n
@@ -91,7 +91,7 @@ unknown_most (suc n) id f w =
     let b = unknown_most n id f (with_sign (label_of id n) false w) in
     omega (arith, a, b)
 
--- the labels of a record are of its first eight groups
+-- The labels of a record belong to its first eight groups.
 all_alike : (id : ℕ) (u w : ℕ → Bool) → AlikeFrom 8 id u w
 all_alike id u w j of_record from = absurd (omega (arith, from))
 
@@ -116,7 +116,7 @@ room_less (k ∷ ks) old new grown =
     let b = room_less ks old new grown in
     omega (arith, a, b)
 
--- an answer that wasn't known takes room
+-- A result that becomes known takes room.
 pub room_falls : (labels all : List ℕ) (old new : PolicyMemo) (label : ℕ) (w : ℕ → Bool) → shown_by labels label ≡ true → Grown old new → AreLocalAnswers all old → AreLocalAnswers all new → recall old label w ≡ None →
     is_some (recall new label w) ≡ true → room labels new + 1 ≤ room labels old
 room_falls [] all old new label w s grown own_old own_new none some = absurd cc
@@ -135,7 +135,7 @@ room_falls (k ∷ ks) all old new label w s grown own_old own_new none some =
         let b = later among in
         omega (arith, a, b)
 
--- where an answer isn't known there is room
+-- If a result isn't known, there is room for it.
 pub room_some : (labels all : List ℕ) (old : PolicyMemo) (label : ℕ) (w : ℕ → Bool) → shown_by labels label ≡ true → AreLocalAnswers all old → recall old label w ≡ None → 1 ≤ room labels old
 room_some [] all old label w s own none = absurd cc
 room_some (k ∷ ks) all old label w s own none = some_if (k == label) refl s (λ among. room_some ks all old label w among own none)
@@ -148,7 +148,7 @@ room_some (k ∷ ks) all old label w s own none = some_if (k == label) refl s (�
         omega (arith, a)
     some_if false e among later = let b = later among in omega (arith, b)
 
--- what is remembered, one answer more
+-- The cached results, with one more.
 
 left_true : (a b : Bool) → (a && b) ≡ true → a ≡ true
 left_true true b p = refl
@@ -187,7 +187,7 @@ pub signed_names : (w : ℕ → Bool) (ks : List ℕ) (k : ℕ) → names (signe
 signed_names w [] k = refl
 signed_names w (j ∷ ks) k = ap (λ b. (j == k) || b) (signed_names w ks k)
 
--- what was spent
+-- The room that was used up.
 
 pub spends_same : (labels : List ℕ) (n : ℕ) (answers : PolicyMemo) → AreLocalAnswers labels answers → Spends labels n n answers answers
 spends_same labels n answers own = record { own = own; spent = omega arith }
@@ -201,7 +201,7 @@ spends_then labels a b c r s t first second = record { own = second.own; spent =
 pub most_then : (labels : List ℕ) (a b c : ℕ) (r s : PolicyMemo) → Spends labels a b r s → c ≤ b + room labels s → c ≤ a + room labels r
 most_then labels a b c r s first most = let f = first.spent in omega (arith, f, most)
 
--- the policy of a label of which nothing is remembered was asked, or is to be
+-- The policy of a label without a cached result was evaluated, or is to be evaluated.
 
 pub most_asked : (labels : List ℕ) (before now : ℕ) (old : PolicyMemo) (label : ℕ) (w : ℕ → Bool) → shown_by labels label ≡ true → AreLocalAnswers labels old → recall old label w ≡ None → now ≤ before + 1 →
     now ≤ before + room labels old
@@ -215,35 +215,35 @@ spends_asked labels before now old new label w among grown own_old own_new none 
 pub spends_most : (labels : List ℕ) (before now : ℕ) (old new : PolicyMemo) → Spends labels before now old new → now ≤ before + room labels old
 spends_most labels before now old new spends = let s = spends.spent in omega (arith, s)
 
--- where nothing is remembered there is room for all signs of each label's record
+-- If nothing is cached, there is room for all assignments of the labels of each label's record.
 pub all_asked : (labels : List ℕ) (before now : ℕ) (answers : PolicyMemo) → now ≤ before + room labels answers → now ≤ before + 256 * length labels
 all_asked labels before now answers most = let all = room_most labels answers in omega (arith, most, all)
 
--- what was computed, and how often a policy was asked for it
+-- What was computed, and the bound on its evaluations.
 pub record AsBounded (computed spent : Type 0) : Type 0 where
   pub is_computed : computed
   pub is_spent : spent
 
--- the live labels are one list
+-- There is only one rising list of the live labels.
 pub live_most : (app : Application) (worlds : Worlds) (xs ys : List ℕ) (before now : ℕ) → IsAscending xs → IsAscending ys → AreLive app worlds xs → AreLive app worlds ys →
     now ≤ before + 256 * length xs → now ≤ before + 256 * length ys
 live_most app worlds xs ys before now up_x up_y live_x live_y most =
     let same : xs ≡ ys = ascending_same xs ys up_x up_y (λ k. bool_eq (shown_by xs k) (shown_by ys k) (λ s. live_y.every k (live_x.only k s)) (λ s. live_x.every k (live_y.only k s))) in
     subst (λ (l : List ℕ). now ≤ before + 256 * length l) same most
 
--- the policies of one list of the live labels were asked
+-- The bound on evaluations for a list of the live labels.
 pub live_asked : (app : Application) (s : State) (viewer : Option ℕ) (live : List ℕ) (before now : ℕ) → IsAscending live → AreLive app (worlds_of s) live →
     (IsLocalCase app s viewer → now ≤ before + 256 * length live) → AreFewEvaluations app s viewer before now
 live_asked app s viewer live before now up are most = record {
   few = λ local labels up_labels are_labels. live_most app (worlds_of s) live labels before now up up_labels are are_labels (most local);
 }
 
--- the same, where nothing was remembered before
+-- The same if nothing was cached before.
 pub first_asked : (app : Application) (s : State) (viewer : Option ℕ) (live : List ℕ) (answers : PolicyMemo) (before now : ℕ) → IsAscending live → AreLive app (worlds_of s) live → IsEmptyMemo answers →
     (IsLocalCase app s viewer → AreLocalAnswers live answers → now ≤ before + room live answers) → AreFewEvaluations app s viewer before now
 first_asked app s viewer live answers before now up are empty most =
     live_asked app s viewer live before now up are (λ local. all_asked live before now answers (most local (own_start live answers empty.recalls empty.unwatched)))
 
--- no policy was asked
+-- No policy was evaluated.
 pub none_asked : (app : Application) (s : State) (viewer : Option ℕ) (now : ℕ) → AreFewEvaluations app s viewer now now
 none_asked app s viewer now = record { few = λ local labels up are. omega arith }

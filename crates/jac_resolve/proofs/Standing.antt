@@ -17,7 +17,7 @@ use Rattle.jac_keep.specs.Records.{alternatives}
 use Rattle.jac_plain.specs.World.{record_with}
 use Rattle.jac_plain.specs.Expressions.{stands}
 
--- what `get` answers, read by a function
+-- The result of `get`, mapped by a function.
 got : {X Y : Type 0} (f : X → Y) (xs : List X) (i : ℕ) (r : Option (Bor X)) → MatchOption r (length xs ≤ i) (λ x. (i < length xs) × HoldsAt (λ y. x.now ≡ y) xs i) → option_map (λ (x : Bor X). f x.now) r ≡ option_map f (slice_get xs i)
 got f xs i None h = ap (option_map f) (sym (slice_get_past xs i h))
 got f xs i (Some x) h = ap (option_map f) (ap Some (h.1 x.now) ∙ sym (slice_get-get_or xs i x.now h.0))
@@ -50,7 +50,7 @@ any_if w id p r true false rest alts e h k = rw e k
 any_if w id p r false true rest alts e h k = rw h k
 any_if w id p r false false rest alts e h k = k
 
--- a record stands where one of its alternatives is shown
+-- A record exists if and only if one of its rows is shown.
 pub any_stands : (w : ℕ → Bool) (id : ℕ) (rows : List Row) → list_any (λ (r : Row). holds w r.guard) (alternatives id rows) ≡ stands (record_with id (rows_at w rows))
 any_stands w id [] = refl
 any_stands w id (r ∷ rows) =

@@ -1,4 +1,4 @@
--- What is remembered from one try to the next, over plain lists.
+-- Cached results from one try to the next, over plain lists.
 use Rattle.std.proofs.Common.{◌≡◌, ◌≤◌, ◌==◌, ◌&&◌, ◌||◌, ℕ, Bool, true, false, not, if◌then◌else◌, List, [], ◌∷◌, Option, Some, None, refl, ap, sym, subst, ◌∙◌, arith}
 use Rattle.std.specs.Option.{is_some}
 use Rattle.std.proofs.lemmas.Bool.Decides.{nat_tests, Decides-eqb}
@@ -19,7 +19,7 @@ right_true : (a b : Bool) → (a && b) ≡ true → b ≡ true
 right_true true b p = p
 right_true false b p = absurd cc
 
--- the signs of what was consulted
+-- The guard of the labels that were consulted.
 
 pub signed_holds : (v : ℕ → Bool) (ks : List ℕ) → holds v (signed_labels v ks) ≡ true
 signed_holds v [] = refl
@@ -35,7 +35,7 @@ pub signed_agrees : (v w : ℕ → Bool) (ks : List ℕ) → holds w (signed_lab
 signed_agrees v w [] h k s = absurd cc
 signed_agrees v w (j ∷ ks) h k s = agrees_if v w j k (j == k) (shown_by ks k) (holds w (signed_labels v ks)) refl h s (λ a b. signed_agrees v w ks a k b)
 
--- one answer more
+-- One more result.
 
 pub either : (a b : Bool) (P : Type 0) → (a || b) ≡ true → (a ≡ true → P) → (b ≡ true → P) → P
 either true b P h p q = p refl
@@ -67,7 +67,7 @@ or_is None c w b x before here is = is_if (holds w c.when) refl is
     is_if true e i = (let same : c.holds ≡ b = cc in sym same ∙ here e)
     is_if false e i = absurd cc
 
--- what is recalled, and who watches what, once one answer more is remembered
+-- The cached results and the watchers after one more result is cached.
 module _ (old new : PolicyMemo) (label : ℕ) (known : MemoEntry)
     (watching : (k j : ℕ) → watches new k j ≡ ((names known.when k && label == j) || watches old k j))
     (recalling : (k : ℕ) (w : ℕ → Bool) → recall new k w ≡ (if label == k then or_known (recall old k w) known w else recall old k w)) where
@@ -122,7 +122,8 @@ grown_then r s t before after = record {
   watched = λ h. after.watched (before.watched h);
 }
 
--- whether a label is shown is nothing to what is remembered of one that doesn't watch it
+-- If a label doesn't watch a second one, whether the second one is shown doesn't change what is
+-- recalled.
 pub unwatched : (answers : PolicyMemo) → AreWatched answers → (k j : ℕ) → watches answers k j ≡ false → (w : ℕ → Bool) → recall answers j (with_label k w) ≡ recall answers j w
 unwatched answers watched k j absent w = watched.each j (with_label k w) w (λ i watching. differs i watching (k == i) refl)
   where
@@ -130,7 +131,7 @@ unwatched answers watched k j absent w = watched.each j (with_label k w) w (λ i
     differs i watching true e = absurd (let same : true ≡ false = sym watching ∙ ap (λ n. watches answers n j) (sym ((Decides-eqb k i).0 e)) ∙ absent in cc)
     differs i watching false e = refl
 
--- a label that is shown, added, changes nothing
+-- Adding a label that is already shown changes nothing.
 pub shows_own : (v : ℕ → Bool) (label : ℕ) → v label ≡ true → with_label label v ≡ v
 shows_own v label own = λ i k. shows_if k (label == k) refl i
   where
@@ -138,16 +139,16 @@ shows_own v label own = λ i k. shows_if k (label == k) refl i
     shows_if k true e = sym (ap v (sym ((Decides-eqb label k).0 e)) ∙ own)
     shows_if k false e = refl
 
--- what is known of a pass
+-- What holds in a pass.
 module _ (app : Application) (worlds : Worlds) (viewer : Option ℕ) where
-  -- an answer that was asked, with the signs of what was consulted
+  -- A computed result, with the guard of the labels that were consulted.
   pub signed_right : (v : ℕ → Bool) (label : ℕ) (support : List ℕ) (known : MemoEntry) → known.when ≡ signed_labels v support →
       ((w : ℕ → Bool) → Agrees support v w → known.holds ≡ is_allowed app (worlds w) viewer label) → IsRight app worlds viewer label known
   signed_right v label support known is promise = record {
     each = λ w h. promise w (record { each = signed_agrees v w support (ap (holds w) (sym is) ∙ h) });
   }
 
-  -- at the start nothing is shown, and nothing remembered
+  -- At the start no label is shown and no result is cached.
   pub underway_start : (answers : PolicyMemo) → ((k : ℕ) (w : ℕ → Bool) → recall answers k w ≡ None) → IsUnderway app worlds viewer [] answers
   underway_start answers none = record {
     right = record { each = λ k w b is. absurd (let e : None ≡ Some b = sym (none k w) ∙ is in cc) };
@@ -156,7 +157,7 @@ module _ (app : Application) (worlds : Worlds) (viewer : Option ℕ) where
     fitted = record { each = λ k s. absurd cc };
   }
 
-  -- what a label was answered under the assignment it is answered once a label is shown that it doesn't watch
+  -- A label that doesn't watch a second one keeps its result when the second one is shown.
   pub unmoved : (a : List ℕ) (answers : PolicyMemo) (k j : ℕ) → IsUnderway app worlds viewer a answers → watches answers k j ≡ false → shown_by a j ≡ true →
       is_allowed app (worlds (with_label k (shown_by a))) viewer j ≡ true
   unmoved a answers k j before absent s = by_answer (recall answers j (shown_by a)) refl (before.fitted.each j s)
@@ -167,7 +168,7 @@ module _ (app : Application) (worlds : Worlds) (viewer : Option ℕ) where
           ∙ before.right.each j (shown_by a) b e ∙ before.allowed j s
       by_answer None e h = absurd cc
 
-  -- none was added
+  -- No label was added.
   pub underway_still : (a : List ℕ) (old new : PolicyMemo) → IsUnderway app worlds viewer a old → AreRight app worlds viewer new → Grown old new → IsUnderway app worlds viewer a new
   underway_still a old new before right grown = record {
     right = right;
@@ -176,7 +177,7 @@ module _ (app : Application) (worlds : Worlds) (viewer : Option ℕ) where
     fitted = record { each = λ k s. grown.kept k (shown_by a) (before.fitted.each k s) };
   }
 
-  -- the same are shown
+  -- The same labels are shown.
   pub underway_same : (a new : List ℕ) (answers : PolicyMemo) → ((j : ℕ) → shown_by new j ≡ shown_by a j) → IsUnderway app worlds viewer a answers → IsUnderway app worlds viewer new answers
   underway_same a new answers still before = record {
     right = before.right;
@@ -188,7 +189,7 @@ module _ (app : Application) (worlds : Worlds) (viewer : Option ℕ) where
       same : shown_by new ≡ shown_by a
       same = λ i j. still j i
 
-  -- one was
+  -- A label was added.
   pub underway_added : (a more : List ℕ) (k : ℕ) (old new : PolicyMemo) → ((j : ℕ) → shown_by more j ≡ with_label k (shown_by a) j) → IsUnderway app worlds viewer a old →
       AreRight app worlds viewer new → Grown old new → Stays app worlds viewer new (shown_by more) (is_affected old k) true → Fitting new (shown_by more) (is_affected old k) true → IsUnderway app worlds viewer more new
   underway_added a more k old new also before right grown stays fits = record {
@@ -216,7 +217,7 @@ module _ (app : Application) (worlds : Worlds) (viewer : Option ℕ) where
           grown.kept j (shown_by more)
           (ap (λ (w : ℕ → Bool). is_some (recall old j w)) same ∙ ap is_some (unwatched old before.watched k j apart.1 (shown_by a)) ∙ before.fitted.each j was)
 
-  -- what is known at the end of a pass may be where the next one begins
+  -- A pass may begin with what holds at the end of another.
   pub underway_none : (a : List ℕ) (answers : PolicyMemo) → IsUnderway app worlds viewer a answers → IsUnderway app worlds viewer [] answers
   underway_none a answers before = record {
     right = before.right;
@@ -225,7 +226,7 @@ module _ (app : Application) (worlds : Worlds) (viewer : Option ℕ) where
     fitted = record { each = λ k s. absurd cc };
   }
 
-  -- it is remembered that the label isn't allowed once it is shown
+  -- A cached result says that the label isn't allowed once it is shown.
   pub refused_known : (a : List ℕ) (answers : PolicyMemo) (k : ℕ) → AreRight app worlds viewer answers → recall answers k (with_label k (shown_by a)) ≡ Some false →
       RemembersForbidden app worlds viewer answers (with_label k (shown_by a))
   refused_known a answers k right is = record {
@@ -241,7 +242,7 @@ module _ (app : Application) (worlds : Worlds) (viewer : Option ℕ) where
       let same : shown_by more ≡ with_label k (shown_by a) = λ i j. also j i in
       subst (λ (w : ℕ → Bool). RemembersForbidden app worlds viewer answers w) same refused
 
-  -- what was remembered still is
+  -- What was cached still is.
   pub refused_still : (w : ℕ → Bool) (old new : PolicyMemo) → Grown old new → RemembersForbidden app worlds viewer old w → RemembersForbidden app worlds viewer new w
   refused_still w old new grown before = record {
     label = before.label;
@@ -250,17 +251,17 @@ module _ (app : Application) (worlds : Worlds) (viewer : Option ℕ) where
     known = grown.kept before.label w before.known;
   }
 
-  -- the answer of a label that is shown
+  -- The result of a label that is shown.
   pub stays_one : (answers : PolicyMemo) (w : ℕ → Bool) (label : ℕ) (b : Bool) → w label ≡ true → b ≡ is_allowed app (worlds w) viewer label → is_some (recall answers label w) ≡ true →
       Stays app worlds viewer answers w (λ j. label == j) b
   stays_one answers w label true own is known = λ j e s. ap (is_allowed app (worlds w) viewer) (sym ((Decides-eqb label j).0 e)) ∙ sym is
   stays_one answers w label false own is known = record { label = label; is_shown = own; forbidden = sym is; known = known }
 
-  -- one that is hidden isn't asked
+  -- The policy of a hidden label isn't evaluated.
   pub stays_hidden : (answers : PolicyMemo) (w : ℕ → Bool) (label : ℕ) → w label ≡ false → Stays app worlds viewer answers w (λ j. label == j) true
   stays_hidden answers w label hidden = λ j e s. absurd (let both : true ≡ false = sym s ∙ ap w (sym ((Decides-eqb label j).0 e)) ∙ hidden in cc)
 
-  -- the label, and then those that watch it
+  -- The label, and then the labels that watch it.
   pub stays_both : (w : ℕ → Bool) (old mid new : PolicyMemo) (label : ℕ) (watchers : List ℕ) (b : Bool) → ((j : ℕ) → shown_by watchers j ≡ watches mid label j) → Grown old mid →
       Stays app worlds viewer mid w (λ j. label == j) true → Stays app worlds viewer new w (shown_by watchers) b → Stays app worlds viewer new w (is_affected old label) b
   stays_both w old mid new label watchers true are grown own stays = λ j e s.
@@ -280,7 +281,7 @@ fits_both w old mid new label watchers true are grown more own fits = λ j e s.
     either (label == j) (watches old label j) (is_some (recall new j w) ≡ true) e (λ same. more.kept j w (own j same s)) (λ watching. fits j (are j ∙ grown.watching label j watching) s)
 fits_both w old mid new label watchers false are grown more own fits = tt
 
--- a property of all labels but those that are left
+-- A property of all labels except those that are left.
 abbrev pub AllBut : (ℕ → Type 0) → List ℕ → List ℕ → Type 0
 AllBut P all left = (j : ℕ) → shown_by all j ≡ true → shown_by left j ≡ false → P j
 
@@ -297,14 +298,15 @@ but_next P all left rest x is one before j s absent = next_if (x == j) refl
 pub but_end : (P : ℕ → Type 0) (all left : List ℕ) → left ≡ [] → AllBut P all left → (j : ℕ) → shown_by all j ≡ true → P j
 but_end P all left none before j s = before j s (ap (λ l. shown_by l j) none)
 
--- what is known while watchers are asked, told or not, and what is known beside
+-- The invariant while watchers are checked: what holds even if the contents of the keeper aren't
+-- known, and a further property.
 pub record InWatching (before now : ℕ) (old new : PolicyMemo) (w : ℕ → Bool) (all left : List ℕ) (beside : Type 0) : Type 0 where
   pub later : before ≤ now
   pub grown : Grown old new
   pub fits : AllBut (λ j. w j ≡ true → is_some (recall new j w) ≡ true) all left
   pub working : beside
 
--- one that was added and taken back
+-- A label that was added and taken back.
 pub taken_back : (a more new : List ℕ) (k : ℕ) → shown_by a k ≡ false → ((j : ℕ) → shown_by more j ≡ with_label k (shown_by a) j) → ((j : ℕ) → shown_by new j ≡ (not (k == j) && shown_by more j)) →
     (j : ℕ) → shown_by new j ≡ shown_by a j
 taken_back a more new k hidden also without j = without j ∙ ap (λ b. not (k == j) && b) (also j) ∙ back_if (k == j) refl

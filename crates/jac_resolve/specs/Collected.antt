@@ -13,38 +13,39 @@ abbrev pub labels_of_rows : ℕ → List Row → List ℕ
 labels_of_rows n [] = []
 labels_of_rows n (r ∷ rs) = labels_below r.id n ++ labels_of_rows n rs
 
--- those of the first models, one model after another
+-- The labels of the first models, in the order of the models.
 abbrev pub labels_before : List Entity → List (List Row) → ℕ → List ℕ
 labels_before models tables zero = []
 labels_before models tables (suc m) =
     labels_before models tables m ++ labels_of_rows (length (groups_at models m)) (rows_of tables m)
 
--- each guard holds under some assignment
+-- Each guard holds under some assignment.
 abbrev pub CanHold : List Row → Type 0
 CanHold rows = All (λ (r : Row). holds (guard_wants r.guard) r.guard ≡ true) rows
 
--- the labels of the first models; where a model has groups, the guards of its rows can hold
+-- The labels of the first models. If a model has groups, each guard of its rows holds under some
+-- assignment.
 pub record Collects (models : List Entity) (tables : List (List Row)) (n : ℕ)
     (labels : List ℕ) : Type 0 where
   pub are : labels ≡ labels_before models tables n
   pub guards : (m : ℕ) → m < n → 0 < length (groups_at models m) → CanHold (rows_of tables m)
   pub few : (m : ℕ) → m < n → length (groups_at models m) ≤ 8
 
--- the record of the label has a row
+-- The record of the label has a row.
 abbrev pub has_row : State → ℕ → Bool
 has_row s k = list_any (λ (r : Row). r.id == record_of_label k)
     (rows_of s.tables (model_of_id (record_of_label k)))
 
--- no guard contradicts itself
+-- No guard contradicts itself.
 abbrev pub AllCanHold : State → Type 0
 AllCanHold s = (m : ℕ) → CanHold (rows_of s.tables m)
 
--- some assignment shows one of the rows
+-- Some assignment shows one of the rows.
 pub record AreSeen (rows : List Row) : Type 0 where
   pub seen_by : ℕ → Bool
   pub seen : list_any (λ (r : Row). holds seen_by r.guard) rows ≡ true
 
--- some assignment shows one of the rows, or there are none
+-- Some assignment shows one of the rows, or there are no rows.
 abbrev pub CanBeSeen : List Row → Bool → Type 0
 CanBeSeen rows true = AreSeen rows
 CanBeSeen rows false = rows ≡ []

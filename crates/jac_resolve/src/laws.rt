@@ -11,14 +11,14 @@ ghost use Rattle.jac_resolve.specs.Collected.{has_row, AllCanHold};
 ghost use Rattle.jac_resolve.specs.ValidCache.{IsValidCache};
 ghost use Rattle.jac_plain.specs.Shown.{worlds_of};
 
-/// A law: where no guard contradicts itself, the live labels are those of all groups of every
-/// record that has a row.
+/// A law: if no guard contradicts itself, the live labels are those of all groups of every record
+/// that has a row.
 pub fn live_by_rows()
     ensures { (app : Application) (s : State) (k : ℕ) → AllCanHold s
         → (IsLiveLabel app (worlds_of s) k ↔ ((has_group app k && has_row s k) ≡ true)) }
 {}
 
-/// A law: what is settled depends on the tables of a state alone, and not on its number.
+/// A law: whether labels are settled depends only on the tables of a state, and not on its number.
 pub fn settled_by_tables()
     ensures { (app : Application) (s t : State) (viewer : Option ℕ) (labels : List ℕ)
         → s.tables ≡ t.tables → IsSettled app (worlds_of s) viewer labels
@@ -31,8 +31,8 @@ pub fn empty_cache_is_valid()
         → IsEmptyCache cache → IsValidCache app worlds viewer cache }
 {}
 
-/// A law: a cache that is valid in some worlds, and is invalidated by what a change to later ones
-/// affects, is valid in the later ones.
+/// A law: if a cache is valid in some worlds, and is invalidated by what a change to later worlds
+/// affects, it is valid in the later worlds.
 pub fn cache_moves()
     ensures { (app : Application) (worlds later : Worlds) (viewer : Option ℕ)
         (invalidation : Change)
@@ -42,13 +42,13 @@ pub fn cache_moves()
         IsValidCache app later viewer new }
 {}
 
-/// A law: whatever is affected covers that nothing changes.
+/// A law: every invalidation covers a change that changes nothing.
 pub fn covered_by_nothing()
     ensures { (app : Application) (worlds : Worlds) (viewer : Option ℕ) (invalidation : Change)
         → IsCovered app worlds worlds invalidation viewer }
 {}
 
-/// A law: what is kept depends on the tables of a state alone, and not on its number.
+/// A law: whether a cache is valid depends only on the tables of a state, and not on its number.
 pub fn valid_by_tables()
     ensures { (app : Application) (s t : State) (viewer : Option ℕ) (cache : Kept)
         → s.tables ≡ t.tables → IsValidCache app (worlds_of s) viewer cache

@@ -1,4 +1,4 @@
-//! Which labels a viewer is shown: whether a policy allows one, and a settled assignment.
+//! Finds which labels a viewer is shown. Each is allowed, and no single further one could be shown.
 #![tactic(auto)]
 
 mod laws;

@@ -1,4 +1,4 @@
-//! The labels that may be shown at all.
+//! The labels that can be shown.
 ghost use Rattle.std.specs.Prelude.{◌≡◌, ◌<◌, ◌≤◌, ◌^◌, ◌++◌, ◌∷◌, [], ◌&&◌, ◌↔◌, ℕ, true, if◌then◌else◌, All, length, IfOk, OnOk, IsTrue};
 ghost use Rattle.jac_world.specs.World.{shown_by, holds, guard_wants, IsAscending};
 ghost use Rattle.jac_lang.specs.Mirror.{application_of, entities_of};
@@ -35,8 +35,8 @@ pub fn live_labels<K: Keeper>(work: &mut Work<'_, K>, app: &App) -> Result<Label
     Ok(Labels::rising(labels))
 }
 
-/// Whether the label is live: its group is one of its model's, and its record has a row. No other
-/// record is asked.
+/// Whether the label is live: its model has its group, and its record has a row. No other record is
+/// read.
 pub fn is_live<K: Keeper>(work: &mut Work<'_, K>, app: &App, label: Label) -> Result<bool, Stop>
     requires attached { IsTrue (K.seen work.old.keeper.now).store.attached }
     ensures live { IsTold K.seen work.new →
@@ -51,7 +51,7 @@ pub fn is_live<K: Keeper>(work: &mut Work<'_, K>, app: &App, label: Label) -> Re
     Ok(can_be_seen(rows.as_slice()))
 }
 
-/// Those of the labels that are live, in their order.
+/// The live labels among these, in their order.
 pub fn live_of<K: Keeper>(
     work: &mut Work<'_, K>,
     app: &App,
@@ -80,7 +80,8 @@ fn push_if(some: &mut Vec<Label>, live: bool, label: Label) -> Result<(), Memory
     Ok(())
 }
 
-// Whether there is a row. Then some assignment shows it, since no guard contradicts itself.
+// Whether there is a row. If there is, some assignment shows it, because no guard contradicts
+// itself.
 fn can_be_seen(rows: &[Row]) -> bool
     ensures { CanBeSeen rows.now result }
 {
@@ -93,7 +94,7 @@ fn can_be_seen(rows: &[Row]) -> bool
     }
 }
 
-// The labels of the records of all models, one model after another.
+// The labels of the records of all models, in the order of the models.
 fn collect<K: Keeper>(work: &mut Work<'_, K>, models: &[ModelDef]) -> Result<Vec<Label>, Stop>
     requires attached { IsTrue (K.seen work.old.keeper.now).store.attached }
     requires sound { IsTold K.seen work.old → HasSoundTables (state_of K.seen work.old) }
@@ -110,7 +111,7 @@ fn collect<K: Keeper>(work: &mut Work<'_, K>, models: &[ModelDef]) -> Result<Vec
     Ok(labels)
 }
 
-// How many groups the model has.
+// The number of groups of the model.
 fn group_count(model: &ModelDef) -> u8
     ensures count { result ≡ length model.now.groups }
     ensures few { result ≤ 8 }
@@ -160,12 +161,12 @@ fn add_row(labels: &mut Vec<Label>, row: &Row, groups: u8) -> Result<(), Memory>
         → OnOk result (labels.new.items ≡ labels.old.items ++ labels_below row.now.id groups) }
     ensures guard { holds (guard_wants row.now.guard) row.now.guard ≡ true }
 {
-    // A guard that is read never contradicts itself.
+    // Reading the pairs of a guard shows that it never contradicts itself.
     let _ = row.guard.pairs();
     add_labels(labels, row.id, groups)
 }
 
-// An id past the end has no labels. No sound state has one.
+// An id from here on has no labels. No sound state has such an id.
 const IDS_END: u128 = 1 << 124;
 
 fn add_labels(labels: &mut Vec<Label>, id: Id, groups: u8) -> Result<(), Memory>

@@ -22,8 +22,8 @@ use jac_value::Id;
 use jac_world::{Assignment, Label, Steps};
 use std::sync::ledger::Ledger;
 
-/// The labels that the viewer is shown: each is allowed, and no single live label can be added. The
-/// live labels are tried in rising order, again and again until a round adds none.
+/// The labels that the viewer is shown. Each is allowed, and no single live label can be added. The
+/// live labels are tried in rising order, in rounds, until a round adds none.
 pub fn resolve<K: Keeper, M: Ledger>(
     work: &mut Work<'_, K>,
     app: &App,
@@ -45,7 +45,7 @@ pub fn resolve<K: Keeper, M: Ledger>(
     Ok(assignment)
 }
 
-// The same of the live labels, with nothing remembered before.
+// The same for these live labels, without cached results at the beginning.
 fn settle<K: Keeper, M: Ledger>(
     work: &mut Work<'_, K>,
     app: &App,
@@ -69,9 +69,9 @@ fn settle<K: Keeper, M: Ledger>(
     Ok(assignment)
 }
 
-/// Of these labels those that the viewer is shown where no others are: each is allowed, and none of
-/// the others can be added. They are tried in their order, again and again until a round adds none.
-/// What the policies answer is remembered, and an answer that is remembered isn't asked again.
+/// The labels among these that the viewer is shown if no others are shown. Each is allowed, and
+/// none of the others among these can be added. They are tried in their order, in rounds, until a
+/// round adds none. The results of policies are cached, and a cached result isn't computed again.
 pub fn settle_among<K: Keeper, M: Ledger>(
     work: &mut Work<'_, K>,
     app: &App,
@@ -111,7 +111,7 @@ pub fn settle_among<K: Keeper, M: Ledger>(
     }
 }
 
-// Tries each label once, and says whether one was added.
+// Tries each label once. Returns whether one was added.
 pub(crate) fn try_labels<K: Keeper, M: Ledger>(
     work: &mut Work<'_, K>,
     app: &App,
@@ -150,8 +150,8 @@ pub(crate) fn try_labels<K: Keeper, M: Ledger>(
     Ok(added)
 }
 
-// Adds the label where it isn't shown and all are allowed once it is, and says whether it was
-// added.
+// Adds the label if it isn't shown and if all shown labels are allowed once it is. Returns whether
+// it was added.
 fn try_label<K: Keeper, M: Ledger>(
     work: &mut Work<'_, K>,
     app: &App,
@@ -198,8 +198,8 @@ fn try_label<K: Keeper, M: Ledger>(
     Ok(true)
 }
 
-// Whether the label that was added is allowed under the assignment, and so are those that watch it.
-// No answer of another label depends on it.
+// Whether the added label and the labels that watch it are allowed under the assignment. No result
+// of another label depends on the added one.
 fn may_stay<K: Keeper, M: Ledger>(
     work: &mut Work<'_, K>,
     app: &App,
@@ -232,7 +232,7 @@ fn may_stay<K: Keeper, M: Ledger>(
     ensures later { evaluations.old ≤ evaluations.new }
     ensures reads { ReadsWork K.seen work.old work.new result }
 {
-    // Most labels fail by their own policy, so it is asked first.
+    // Most labels fail by their own policy, so it is evaluated first.
     let own = asked_stays(work, app, viewer, a, label, answers, evaluations)?;
     if !own {
         return Ok(false);
@@ -250,7 +250,7 @@ fn may_stay<K: Keeper, M: Ledger>(
     Ok(stay)
 }
 
-// Whether each of these labels that the assignment shows is allowed under it.
+// Whether all of these labels that the assignment shows are allowed under it.
 fn watchers_stay<K: Keeper, M: Ledger>(
     work: &mut Work<'_, K>,
     app: &App,
@@ -293,7 +293,7 @@ fn watchers_stay<K: Keeper, M: Ledger>(
     Ok(true)
 }
 
-// The same of one label.
+// The same for one label.
 fn watcher_stays<K: Keeper, M: Ledger>(
     work: &mut Work<'_, K>,
     app: &App,
@@ -331,7 +331,7 @@ fn watcher_stays<K: Keeper, M: Ledger>(
     Ok(stays)
 }
 
-// The same of one label that the assignment shows.
+// The same for one label that the assignment shows.
 fn asked_stays<K: Keeper, M: Ledger>(
     work: &mut Work<'_, K>,
     app: &App,
@@ -367,8 +367,8 @@ fn asked_stays<K: Keeper, M: Ledger>(
     Ok(holds)
 }
 
-// Whether the label is allowed under the assignment, which shows it: as it is remembered, or asked
-// of the policy, and then remembered.
+// Whether the label is allowed under the assignment, which shows it. If there is no cached result,
+// the policy is evaluated and its result cached.
 fn ask<K: Keeper, M: Ledger>(
     work: &mut Work<'_, K>,
     app: &App,
@@ -411,7 +411,8 @@ fn ask<K: Keeper, M: Ledger>(
     }
 }
 
-// What the policy of the label answers under the assignment, with the signs of what was consulted.
+// The result of the label's policy under the assignment, with a guard of the labels that were
+// consulted.
 fn evaluate<K: Keeper, M: Ledger>(
     work: &mut Work<'_, K>,
     app: &App,

@@ -20,9 +20,9 @@ use jac_value::{Id, id_model};
 use jac_world::{Assignment, Label, Steps};
 use std::sync::ledger::Ledger;
 
-/// Whether the record of the label exists under the assignment, and the policy of its group is true
-/// there; and the labels that were consulted for this answer, which is the same wherever they are
-/// shown as here.
+/// Whether the record of the label exists under the assignment and the policy of its group is true
+/// there. Also the labels that were consulted: the result is the same under each assignment that
+/// agrees with this one about them.
 pub fn allowed<K: Keeper, M: Ledger>(
     work: &mut Work<'_, K>,
     app: &App,
@@ -63,7 +63,7 @@ pub fn allowed<K: Keeper, M: Ledger>(
     }
 }
 
-// Whether the policy is true of the record under the assignment.
+// Whether the policy is true for the record under the assignment.
 fn policy_holds<K: Keeper>(
     work: &mut Work<'_, K>,
     app: &App,
@@ -107,7 +107,7 @@ pub(crate) fn record_of(label: Label) -> Id
     Id(label.0 / 8)
 }
 
-/// Whether the group of the label is one of its model's.
+/// Whether the label's model has its group.
 pub(crate) fn has_group(app: &App, label: Label) -> bool
     ensures { result ≡ has_group (application_of app.now) label }
 {

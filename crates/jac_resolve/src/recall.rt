@@ -1,4 +1,4 @@
-//! What policies answered, remembered with the labels that were consulted for it.
+//! Results of policies, cached with the labels that were consulted for them.
 ghost use Rattle.std.specs.Prelude.{◌≡◌, ◌||◌, ℕ, Bool, true, List, Option, is_some, OnOk};
 ghost use Rattle.std.specs.Ordering.{nat_cmp};
 ghost use Rattle.std.specs.BTreeMap.{get};
@@ -18,7 +18,7 @@ use jac_world::Label;
 use std::alloc::Global;
 use std::collections::BTreeMap;
 
-// Remembers an answer of the label, which then watches all labels that were consulted.
+// Caches a result of the label. The label then watches all labels that were consulted.
 pub(crate) fn remember(
     answers: &mut PolicyMemo,
     alloc: Global,
@@ -40,7 +40,7 @@ pub(crate) fn remember(
     Ok(())
 }
 
-/// Adds all labels that were consulted for what is remembered.
+/// Adds all labels that were consulted for the cached results.
 pub fn add_consulted(answers: &PolicyMemo, consulted: &mut Support) -> Result<(), Memory>
     ensures added { OnOk result ((k j : ℕ) → watches answers.now k j ≡ true →
         shown_by consulted.new k ≡ true) }

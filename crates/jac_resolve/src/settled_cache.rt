@@ -1,4 +1,4 @@
-//! A viewer's cache, settled again after a change.
+//! Settling a viewer's cache again after a change.
 ghost use Rattle.std.specs.Prelude.{◌≡◌, ◌≤◌, ◌&&◌, ℕ, true, not, is_some, None, Some, IfOk, OnOk, IsTrue};
 ghost use Rattle.std.specs.List.{list_all};
 ghost use Rattle.jac_world.specs.World.{shown_by};
@@ -21,11 +21,11 @@ use jac_world::{Assignment, Label, Steps};
 use std::alloc::Global;
 use std::sync::ledger::Ledger;
 
-/// The labels that the viewer is shown, as `resolve` would settle them. If none were settled yet,
-/// all live labels are tried, and nothing is remembered at first. If some were and nothing is
-/// stale, these are those of the cache, and nothing is asked. Else the labels that are linked to
-/// what is stale are tried, or all live ones if these are many. What is remembered isn't asked
-/// again.
+/// The labels that the viewer is shown, as `resolve` would settle them. If the cache has no labels,
+/// all live labels are tried, without cached results at the beginning. If it has labels and none is
+/// stale, the result is these labels, and no policy is evaluated. Otherwise the labels that are
+/// linked to the stale ones are tried, or all live labels if those are many. A cached result isn't
+/// computed again.
 pub fn settle_cache<K: Keeper, M: Ledger>(
     work: &mut Work<'_, K>,
     app: &App,
@@ -95,7 +95,8 @@ fn settle_anew<K: Keeper, M: Ledger>(
     }
 }
 
-// Settles the cache for the first time. All live labels are tried, and nothing is remembered.
+// Settles the cache for the first time. All live labels are tried, without cached results at the
+// beginning.
 fn settle_first<K: Keeper, M: Ledger>(
     work: &mut Work<'_, K>,
     app: &App,
@@ -120,7 +121,7 @@ fn settle_first<K: Keeper, M: Ledger>(
     settle_all(work, app, viewer, cache, evaluations)
 }
 
-// Nothing is remembered any longer.
+// Forgets all results.
 fn forget_answers(alloc: Global, cache: &mut ViewerCache)
     ensures empty { IsEmptyMemo cache.new.answers }
     ensures labels { cache.new.labels ≡ cache.old.labels }
@@ -128,7 +129,7 @@ fn forget_answers(alloc: Global, cache: &mut ViewerCache)
     cache.answers = PolicyMemo::empty(alloc);
 }
 
-// Settles a cache that was settled before, where it isn't at rest.
+// Settles a cache again, unless it is at rest.
 fn settle_again<K: Keeper, M: Ledger>(
     work: &mut Work<'_, K>,
     app: &App,
@@ -165,12 +166,12 @@ fn is_at_rest(cache: &ViewerCache) -> bool
     cache.labels.is_some() && cache.stale.as_slice().is_empty()
 }
 
-// How often the labels that are tried may turn out to be linked to others.
+// How many times the labels to try may turn out to be linked to others.
 const WIDENINGS: u8 = 8;
 
-// Tries the labels alone that are linked to what is stale, where these are few, and says whether
-// they are. Where what is answered links them to others, these are tried with them again, as if
-// they had been stale.
+// Tries only the labels that are linked to stale ones. If new results link them to other labels,
+// tries again with these too, as if they were stale. Returns whether the cache was settled. It
+// wasn't if there are too many such labels.
 fn settle_few<K: Keeper, M: Ledger>(
     work: &mut Work<'_, K>,
     app: &App,
@@ -203,7 +204,8 @@ fn settle_few<K: Keeper, M: Ledger>(
     Ok(false)
 }
 
-// What is stale with all that it is linked to, where that is few labels and some were settled.
+// The stale labels with all that they are linked to. `None` if these are too many, or if the cache
+// has no labels.
 fn near_stale(alloc: Global, cache: &ViewerCache) -> Result<Option<Labels>, Memory>
     ensures { IfOk result (AreNearIf cache.now) }
 {
@@ -215,13 +217,13 @@ fn near_stale(alloc: Global, cache: &ViewerCache) -> Result<Option<Labels>, Memo
         .linked(alloc, &cache.stale, few(&cache.answers))
 }
 
-// A quarter of the labels that were asked. To try more costs as much as to try all.
+// A quarter of the labels with cached results. Trying more labels costs as much as trying all.
 fn few(answers: &PolicyMemo) -> usize {
     answers.len() / 4
 }
 
-// Tries these labels alone, and says whether no answer links them to others. Else they are stale
-// with these.
+// Tries only these labels. Returns whether no result links them to others. If one does, the others
+// become stale together with these.
 fn settle_near<K: Keeper, M: Ledger>(
     work: &mut Work<'_, K>,
     app: &App,
@@ -260,8 +262,8 @@ fn settle_near<K: Keeper, M: Ledger>(
     }
 }
 
-// The labels of the cache, and those of these that can be added. They are tried in their order,
-// again and again until a round adds none.
+// The labels of the cache, and the labels among `tried` that can be added. They are tried in their
+// order, in rounds, until a round adds none.
 fn fill<K: Keeper, M: Ledger>(
     work: &mut Work<'_, K>,
     app: &App,
@@ -312,7 +314,7 @@ fn remove_all(a: &mut Assignment, labels: &[Label])
     }
 }
 
-// The labels with all that they are linked to by now, or none where there is no other.
+// The labels with all that they are linked to. `None` if there are no others.
 fn widened(alloc: Global, answers: &PolicyMemo, near: &Labels) -> Result<Option<Labels>, Memory>
     ensures { IfOk result (Widens answers.now near.now) }
 {
@@ -332,7 +334,7 @@ fn has_all(among: &Labels, labels: &[Label]) -> bool
     labels.iter().all(|label| among.has(*label))
 }
 
-// All live labels are tried, with what is remembered.
+// Tries all live labels, with the cached results.
 fn settle_all<K: Keeper, M: Ledger>(
     work: &mut Work<'_, K>,
     app: &App,
@@ -368,7 +370,7 @@ fn settle_all<K: Keeper, M: Ledger>(
     Ok(())
 }
 
-// The labels of the cache are these, and those are stale.
+// Sets the labels and the stale labels of the cache.
 fn put_labels(cache: &mut ViewerCache, labels: Assignment, stale: Labels)
     ensures { cache.new ≡ record {
       labels = Some labels;

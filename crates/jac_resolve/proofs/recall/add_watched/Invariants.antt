@@ -4,7 +4,7 @@ use Rattle.jac_world.specs.World.{shown_by}
 use Rattle.jac_shown_rows.specs.Consulted.{Grows}
 use Rattle.jac_resolve.proofs.recall.add_watched.Given as goal
 
--- a label that is watched was added, or is left
+-- Each label that is watched was added, or is left.
 abbrev pub invariant-watched : goal.invariant-watched
 invariant-watched l =
     record {
