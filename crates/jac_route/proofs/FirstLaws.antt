@@ -1,4 +1,4 @@
--- The table that is made by the first views of each pattern is the table of the views.
+-- The table made from the first views of each pattern is the table of the views.
 use Rattle.std.proofs.Common.{◌≡◌, ◌∙◌, refl, sym, ap, subst, ℕ, ◌+◌, ◌&&◌, not, if◌then◌else◌, cond, Bool, true, false, List, [], ◌∷◌, Option, Some, Result, Ok, Err, IfOk, IfErr}
 use Rattle.std.specs.Prelude.{unwrap_or}
 use Rattle.std.specs.List.{position_from}
@@ -19,7 +19,8 @@ use Rattle.jac_route.specs.Firsts.{no_firsts, with_first, with_view_before, firs
 
 -- ---- a map
 
--- the map has this of a pattern now
+-- After a put: the map has these first views for the pattern, and what it had before for the
+-- others.
 abbrev pub SetAt : List ℕ → FirstViews → (List ℕ → Option FirstViews) → (List ℕ → Option FirstViews) → Type 0
 SetAt pattern first f g = (q : List ℕ) → g q ≡ cond (is_eq (slice_cmp nat_cmp pattern q)) (Some first) (f q)
 

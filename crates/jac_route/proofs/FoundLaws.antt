@@ -1,4 +1,4 @@
--- What the routes of an application find is what its views find.
+-- What a request finds by the routes of an application is what it finds by its views.
 use Rattle.std.proofs.Common.{◌≡◌, sym, subst, List, ℕ, length, Result, Ok, Err, IfOk}
 use Rattle.jac_value.specs.declared.memory.Memory.{Memory}
 use Rattle.jac_lang.specs.Syntax.{Application}

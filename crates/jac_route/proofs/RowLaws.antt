@@ -1,4 +1,5 @@
--- What holds of each row of a table holds of the row that a path finds, and its tokens read the path.
+-- What holds for each row of a table holds for the row that a path finds, and its tokens read the
+-- path.
 use Rattle.std.proofs.Common.{◌≡◌, ◌⊎◌, inl, inr, refl, subst, ap, ℕ, zero, suc, ◌-◌, ◌<◌, ◌==◌, ◌&&◌, Bool, true, false, cond, List, [], ◌∷◌, ◌++◌, length, take, drop, Option, Some, None, is_some, IfSome, ltb, arith}
 use Rattle.std.specs.List.{ends_with}
 use Rattle.std.specs.Prelude.{nat_eq}
@@ -22,7 +23,7 @@ front_without (suc n) (b ∷ path) e = by (b == slash) e (front_without n path)
     by true e on = e
     by false e on = on e
 
--- what stands before the last byte of a segment
+-- What comes before the last byte of a segment has no slash.
 front_of_segment : (n : ℕ) (path : List ℕ) → n < length (segment path) → has_slash (take n path) ≡ false
 front_of_segment zero path h = refl
 front_of_segment (suc n) [] h = refl
@@ -64,7 +65,7 @@ abbrev pub AllRows : {K : Type 0} → (List ℕ → K → Type 0) → RowsOf K �
 AllRows P [] = Unit {0}
 AllRows P ((t, key) ∷ rest) = P t key × AllRows P rest
 
--- tokens that read the path, and of which this holds
+-- Tokens that read the path, and for which this holds.
 abbrev pub ReadsAs : {K : Type 0} → (List ℕ → K → Type 0) → List ℕ → K → Type 0
 ReadsAs P path key = (tokens : List ℕ) × ReadsPath tokens path × P tokens key
 
@@ -113,11 +114,11 @@ module _ {K : Type 0} where
   some_or_else P None b ha hb = hb
   some_or_else P (Some key) b ha hb = ha
 
-  -- the first byte of a path reads itself
+  -- The first byte of a path reads itself.
   by_byte : (P : List ℕ → K → Type 0) (b : ℕ) (path : List ℕ) (key : K) → ReadsAs (Behind P b) path key → ReadsAs P (b ∷ path) key
   by_byte P b path key (tokens, reads, holds) = (b ∷ tokens, inl (path, refl, reads), holds)
 
-  -- a parameter reads the first bytes
+  -- A parameter reads the first bytes.
   by_param : (P : List ℕ → K → Type 0) (n b : ℕ) (path : List ℕ) (key : K) → has_slash (b ∷ take n path) ≡ false → ReadsAs (Behind P param_token) (drop n path) key
       → ReadsAs P (b ∷ path) key
   by_param P n b path key none (tokens, reads, holds) = (
@@ -132,7 +133,7 @@ module _ {K : Type 0} where
   abbrev Finds : ℕ → RowsOf K → List ℕ → Type 1
   Finds skip rows path = (P : List ℕ → K → Type 0) → AllRows P rows → IfSome (seek skip rows path) (ReadsAs P (drop skip path))
 
-  -- what is found behind a parameter
+  -- What a path finds behind a parameter.
   some_param : (P : List ℕ → K → Type 0) (rows : RowsOf K) (b : ℕ) (path : List ℕ) → AllRows (Behind P param_token) rows
       → ((skip : ℕ) (next : RowsOf K) (Q : List ℕ → K → Type 0) → AllRows Q next → IfSome (seek skip next path) (ReadsAs Q (drop skip path)))
       → IfSome (seek ((param_step rows (b ∷ path)).0 - 1) (param_step rows (b ∷ path)).1 path) (ReadsAs P (b ∷ path))
@@ -181,7 +182,7 @@ module _ {K : Type 0} where
   pub some_first : (P : List ℕ → K → Type 0) (rows : RowsOf K) (path : List ℕ) → AllRows P rows → IfSome (first rows path) (ReadsAs P path)
   some_first P rows path all = some_seek P 0 rows path all
 
-  -- a pattern that is refused has a row that it conflicts with
+  -- If a pattern is refused, there is a row with which it conflicts.
   pub rival_from : (P : List ℕ → K → Type 0) (p : List ℕ) (best : Option K × ℕ) (rows : RowsOf K) → AllRows P rows → is_some (nearest_from p best rows) ≡ true
       → (is_some best.0 ≡ true) ⊎ ((t : List ℕ) × (key : K) × (conflicts p t ≡ true) × P t key)
   rival_from P p best [] all some = inl some

@@ -28,7 +28,7 @@ abbrev pub IsRouteOf : List Page → Route → Type 0
 IsRouteOf views route =
     IfSome route.get (λ n. IsViewAt views n verbs.Get route.pattern) × IfSome route.post (λ n. IsViewAt views n verbs.Post route.pattern)
 
--- a row has the pattern of a view before the n-th, with the views of it
+-- A row has the pattern of a view before the n-th, and the views of that pattern.
 record IsRowOf (views : List Page) (n : ℕ) (t : List ℕ) (row : RouteOf Route) : Type 0 where
   pub route : IsRouteOf views row.value
   pub place : ℕ
@@ -65,7 +65,7 @@ own_route views pattern = (
 
 -- ---- one view
 
--- the rows with a view, or why it is refused
+-- The rows with one view more, or why the view is refused.
 abbrev ViewRead : List Page → ℕ → Page → Result Table ℕ → Type 0
 ViewRead views n v (Ok rows) = AllRows (IsRowOf views (n + 1)) rows
 ViewRead views n v (Err m) = (m ≡ n) × (IsRepeated views n v.method v.path ⊎ IsNoRoute views n (parse_route v.path))
@@ -125,12 +125,12 @@ read_view views n v rows there all = by (not (is_view_place n (view_place views 
 
 -- ---- all views
 
--- the rows of views, or the view that is refused
+-- The rows of the views, or the view that is refused.
 abbrev TableRead : List Page → Result Table ℕ → Type 0
 TableRead views (Ok rows) = (n : ℕ) × AllRows (IsRowOf views n) rows
 TableRead views (Err n) = IsRefusedAt views n
 
--- these views stand from the n-th on
+-- `rest` are the views from the n-th on.
 abbrev AreLeft : List Page → ℕ → List Page → Type 0
 AreLeft views n rest = (k : ℕ) (v : Page) → slice_get rest k ≡ Some v → slice_get views (n + k) ≡ Some v
 
@@ -170,7 +170,7 @@ fits_row views n path tokens row reads is = (
   subst (λ (t : List ℕ). ReadsPath t path) is.tokens reads,
 )
 
--- what is found of the views: none, or one that fits
+-- The view that is found fits, if there is one.
 abbrev IsFoundOf : List Page → Option Verb → List ℕ → List ℕ → Option ℕ → Type 0
 IsFoundOf views verb path pattern o = IfSome o (λ n. IsFitting views verb path n (path_pairs pattern path))
 
@@ -216,7 +216,7 @@ pub found_view : (app : Application) (method path : List ℕ) (n : ℕ) (pairs :
     → IsFitting app.views (verb_of method) path n pairs
 found_view app method path n pairs e = subst (IsFound app.views (verb_of method) path) e (in_table app.views (table_of app) method path (read_all app))
 
--- ---- a view that a path finds is one of the application's
+-- ---- a view that a path finds is a view of the application
 
 found_within : (views : List Page) (verb : Option Verb) (path : List ℕ) (found : Found) → IsFound views verb path found → IsWithin (length views) found
 found_within views verb path (outcome.View n pairs) (v, there, method, fits, given) = view_within views n v there

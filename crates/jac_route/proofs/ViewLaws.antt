@@ -55,14 +55,14 @@ at_meant verb pattern v e =
 pub at_self : (v : Page) → is_at v.method v.path v ≡ true
 at_self v = rw (verb_self v.method, (bytes_eq-Decides v.path v.path).1 refl) refl
 
--- the place of a view's method and pattern has a view of these
+-- If a method and a pattern have a place, the view there has this method and pattern.
 pub placed_view : (views : List Page) (verb : Verb) (pattern : List ℕ) (n : ℕ) → view_place views verb pattern ≡ Some n → IsViewAt views n verb pattern
 placed_view views verb pattern n e =
     let found = position-Some (is_at verb pattern) views n no_page e in
     let meant = at_meant verb pattern (get_or views n no_page) found.1 in
     (get_or views n no_page, view_there views n found.0, meant.0, meant.1)
 
--- what passes has a first place, which isn't behind it
+-- If the n-th view passes, there is a first view that does, and it isn't after the n-th.
 first_place : (p : Page → Bool) (views : List Page) (n : ℕ) → n < length views → p (get_or views n no_page) ≡ true
     → (k : ℕ) × (position p views ≡ Some k) × (k ≤ n)
 first_place p views n within holds =

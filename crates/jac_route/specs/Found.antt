@@ -12,13 +12,13 @@ use Rattle.jac_route.specs.declared.routes.Route.{Route}
 use Rattle.jac_route.specs.PathPairs.{path_pairs}
 use Rattle.jac_route.specs.Routes.{Table, table_of}
 
--- the views that a method asks for (RFC 9110, sections 9.3.1 to 9.3.3): HEAD finds those of GET
+-- The views for a method (RFC 9110, sections 9.3.1 to 9.3.3). HEAD finds those of GET.
 abbrev pub verb_of : List ℕ → Option Verb
 verb_of method =
     if bytes_eq method (codes "GET") || bytes_eq method (codes "HEAD") then Some verbs.Get else
     if bytes_eq method (codes "POST") then Some verbs.Post else None
 
--- the view of a pattern for this method
+-- The view of a pattern for this method.
 abbrev pub view_for : Route → Option Verb → Option ℕ
 view_for route None = None
 view_for route (Some verbs.Get) = route.get
@@ -35,7 +35,7 @@ abbrev pub found_at : Option (RouteOf Route) → List ℕ → List ℕ → Found
 found_at None method path = outcome.NoRoute
 found_at (Some row) method path = found_by (view_for row.value (verb_of method)) row.value path
 
--- what stands at the pattern that `matchit` finds
+-- What the method finds at the pattern that `matchit` finds.
 abbrev pub found_among : Table → List ℕ → List ℕ → Found
 found_among routes method path = found_at (first routes path) method path
 
@@ -43,11 +43,11 @@ abbrev pub found_in : Result Table ℕ → List ℕ → List ℕ → Found
 found_in (Ok routes) method path = found_among routes method path
 found_in (Err n) method path = outcome.NoRoute
 
--- what a method and a path find among the views of an application
+-- What a method and a path find among the views of an application.
 abbrev pub found : Application → List ℕ → List ℕ → Found
 found app method path = found_in (table_of app) method path
 
--- the view that was found is one of this many
+-- If a view was found, its number is less than k.
 abbrev pub IsWithin : ℕ → Found → Type 0
 IsWithin k (outcome.View n pairs) = n < k
 IsWithin k outcome.NoRoute = ⊤

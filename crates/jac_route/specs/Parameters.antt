@@ -11,7 +11,7 @@ use Rattle.jac_lang.specs.Syntax.{Entity, Application}
 use Rattle.jac_route.specs.declared.pairs.Pair.{Pair}
 use Rattle.jac_route.specs.Pairs.{value_of_name}
 
--- a parameter that is missing has the default of its kind
+-- A missing parameter has the default value of its kind.
 abbrev pub parameter_read : Kind → Option (List ℕ) → Value
 parameter_read kind None = default_value kind
 parameter_read kind (Some text) = value_read kind text
@@ -23,7 +23,7 @@ parameter models pairs field = record {
       (kind_named models field.kind) (value_of_name field.name pairs);
 }
 
--- each parameter with the value of the first pair of its name
+-- Each parameter, bound to the value of the first pair with its name.
 abbrev pub parameters : List Entity → List Field → List Pair → List Binding
 parameters models [] pairs = []
 parameters models (field ∷ fields) pairs = parameter models pairs field ∷ parameters models fields
@@ -37,6 +37,6 @@ abbrev pub viewer_named : List Entity → Option (List ℕ) → ℕ → Option �
 viewer_named models None number = None
 viewer_named models (Some name) number = id_if number (model_place models name)
 
--- the viewer of this number: none where it is no id of the viewer's model
+-- The viewer with this number: none if it is no id of the viewer's model.
 abbrev pub viewer_of : Application → ℕ → Option ℕ
 viewer_of app number = viewer_named app.models app.viewer number

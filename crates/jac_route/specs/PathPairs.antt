@@ -5,23 +5,22 @@ use Rattle.percent_encoding.specs.Percent.{percent_decode}
 use Rattle.jac_value.specs.Paths.{segments, segment_name}
 use Rattle.jac_route.specs.declared.pairs.Pair.{Pair}
 
--- the text of a part of a path: escapes are read, and what isn't UTF-8 becomes U+FFFD
+-- The text of a part of a path. Percent escapes are decoded, and what isn't UTF-8 becomes U+FFFD.
 abbrev pub part_text : List ℕ → List ℕ
 part_text part = utf8_lossy (percent_decode part)
 
--- a segment `{NAME}` takes the part as the value of NAME, a fixed one takes nothing
+-- A segment `{NAME}` takes the part as the value of NAME. A fixed one takes nothing.
 abbrev pub pair_at : Option (List ℕ) → List ℕ → List Pair
 pair_at None part = []
 pair_at (Some name) part = record { name = name; value = part_text part } ∷ []
 
--- the segments of a pattern beside those of a path
+-- The pairs of the segments of a pattern and the parts of a path.
 abbrev pub pairs_at : List (List ℕ) → List (List ℕ) → List Pair
 pairs_at [] parts = []
 pairs_at (segment ∷ segments) [] = []
 pairs_at (segment ∷ segments) (part ∷ parts) = pair_at (segment_name segment) part ++ pairs_at
     segments parts
 
--- the pairs of a path that fits the pattern; a path is cut at its slashes before anything is
--- decoded
+-- The pairs of a path that fits the pattern. A path is cut at its slashes before it is decoded.
 abbrev pub path_pairs : List ℕ → List ℕ → List Pair
 path_pairs pattern path = pairs_at (segments pattern) (segments path)

@@ -14,7 +14,7 @@ use Rattle.jac_route.specs.declared.routes.Route.{Route}
 use Rattle.jac_route.specs.declared.routes.RouteFault.{RouteFault}
 use Rattle.jac_route.specs.declared.routes.RouteFault.TheVariants as fault
 
--- the rows of `matchit`, each with the views of its pattern
+-- The rows of `matchit`, each with the numbers of its pattern's views.
 abbrev pub Table : Type 0
 Table = RowsOf (RouteOf Route)
 
@@ -29,14 +29,14 @@ has_pattern pattern v = bytes_eq v.path pattern
 abbrev pub is_at : Verb → List ℕ → Page → Bool
 is_at verb pattern v = same_verb v.method verb && bytes_eq v.path pattern
 
--- the place of the first view of a pattern, and of the first of a method and a pattern
+-- The place of the first view with a pattern. Below, that of the first with a method and a pattern.
 abbrev pub pattern_place : List Page → List ℕ → Option ℕ
 pattern_place views pattern = position (has_pattern pattern) views
 
 abbrev pub view_place : List Page → Verb → List ℕ → Option ℕ
 view_place views verb pattern = position (is_at verb pattern) views
 
--- the pattern and its views
+-- The pattern and its views.
 abbrev pub route_of : List Page → List ℕ → Route
 route_of views pattern = record {
   pattern = pattern;
@@ -48,15 +48,14 @@ abbrev pub is_view_place : ℕ → Option ℕ → Bool
 is_view_place n None = false
 is_view_place n (Some place) = place == n
 
--- the table with one pattern more, or the number of the view where `matchit` refuses its pattern
--- beside the others
+-- The table with one more pattern, or the number of the view if `matchit` refuses its pattern.
 abbrev pub with_pattern : ℕ → Result Scan InsertError → Route → Table → Result Table ℕ
 with_pattern n (Err e) route rows = Err n
 with_pattern n (Ok scan) route rows = if is_some (nearest scan.pattern rows) then Err n
     else Ok (placed (scan.pattern, route_from scan route) rows)
 
--- the table with the n-th view: refused where an earlier view has its method and pattern, unchanged
--- where one has its pattern alone
+-- The table with the n-th view. The view is refused if an earlier one has its method and pattern.
+-- The table is unchanged if an earlier one has only its pattern.
 abbrev pub with_view : List Page → ℕ → Page → Table → Result Table ℕ
 with_view views n v rows =
     if not (is_view_place n (view_place views v.method v.path)) then Err n else
@@ -67,7 +66,7 @@ abbrev pub go_on : Result Table ℕ → (Table → Result Table ℕ) → Result 
 go_on (Ok rows) next = next rows
 go_on (Err n) next = Err n
 
--- the table with each of the views from the n-th on, or the number of the first that clashes
+-- The table with all views from the n-th on, or the number of the first that is refused.
 abbrev pub table_from : List Page → ℕ → List Page → Table → Result Table ℕ
 table_from views n [] rows = Ok rows
 table_from views n (v ∷ rest) rows = go_on (with_view views n v rows)
@@ -76,16 +75,16 @@ table_from views n (v ∷ rest) rows = go_on (with_view views n v rows)
 abbrev pub table_of : Application → Result Table ℕ
 table_of app = table_from app.views 0 app.views []
 
--- no view clashes with an earlier one, and these are the routes
+-- No view is refused, and these are the routes.
 abbrev pub AreRoutes : Application → Table → Type 0
 AreRoutes app routes = table_of app ≡ Ok routes
 
--- a clash is at the view that is refused; want of memory says nothing
+-- A clash names the view that is refused. Nothing is said if the program is out of memory.
 abbrev pub Clashes : RouteFault → Result Table ℕ → Type 0
 Clashes (fault.Clash n) table = table ≡ Err n
 Clashes fault.Memory table = ⊤
 
--- what a refused insert means at the n-th view
+-- The fault for an insert that is refused at the n-th view.
 abbrev pub insert_fault : ℕ → InsertError → RouteFault
 insert_fault n insert.OutOfMemory = fault.Memory
 insert_fault n (insert.Conflict with) = fault.Clash n

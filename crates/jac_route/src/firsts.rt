@@ -7,7 +7,7 @@ use jac_value::{Memory, Txt};
 use std::alloc::Global;
 use std::collections::BTreeMap;
 
-/// The numbers of the first views of a pattern: of any method, and of each.
+/// The numbers of the first views of a pattern: of any method, of GET and of POST.
 #[derive(Clone, Copy)]
 pub(crate) struct FirstViews {
     pub any: Option<u32>,
@@ -30,7 +30,7 @@ pub(crate) fn firsts_of(alloc: Global, views: &[View]) -> Result<BTreeMap<Txt, F
     Ok(firsts)
 }
 
-// Puts the view of this number in front of all that the map has.
+// Puts the view with this number before all that the map has.
 fn put_first(
     alloc: Global,
     number: u32,
@@ -64,7 +64,7 @@ fn with_first(number: u32, verb: Verb, first: FirstViews) -> FirstViews
     }
 }
 
-/// What the map has of a pattern.
+/// The first views that the map has for a pattern.
 pub(crate) fn first_views(firsts: &BTreeMap<Txt, FirstViews>, pattern: &Txt) -> FirstViews
     ensures { result ≡ firsts_at firsts.now pattern.now }
 {
@@ -78,7 +78,7 @@ pub(crate) fn first_views(firsts: &BTreeMap<Txt, FirstViews>, pattern: &Txt) -> 
     }
 }
 
-/// The first view of this method.
+/// The first view with this method.
 pub(crate) fn first_of_verb(first: FirstViews, verb: Verb) -> Option<u32>
     ensures { result ≡ first_of_verb verb first }
 {

@@ -1,4 +1,4 @@
-//! What a request hands to a view: its route, its pairs, its parameters, and who looks.
+//! Finds the view of a request, its parameters, and its viewer.
 #![tactic(auto)]
 
 mod firsts;

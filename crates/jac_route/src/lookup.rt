@@ -9,7 +9,7 @@ use jac_lang::Verb;
 use jac_value::{Memory, Txt};
 use std::alloc::Global;
 
-/// The methods that a path has; where it has GET, it has HEAD too.
+/// The methods of the views that a path has. If it has GET, it has HEAD too.
 #[derive(Clone, Copy, PartialEq, Eq)]
 pub struct Allow {
     pub get: bool,
@@ -19,15 +19,15 @@ pub struct Allow {
 /// What a request finds.
 #[derive(Drop)]
 pub enum Found {
-    /// The number of the view, and what the path gives to the names in its pattern.
+    /// The number of the view, and the values that the path gives to the names in its pattern.
     View { view: u32, pairs: Pairs },
     /// No pattern fits the path.
     NoRoute,
-    /// A pattern fits, but has no view of this method.
+    /// A pattern fits, but has no view for this method.
     WrongMethod(Allow),
 }
 
-/// The view of a method and a path. HEAD counts as GET. Parts of the path are percent-decoded, and
+/// The view for a method and a path. HEAD counts as GET. Parts of the path are percent-decoded, and
 /// what isn't UTF-8 in them becomes U+FFFD.
 pub fn find(alloc: Global, routes: &Routes, method: &Txt, path: &Txt) -> Result<Found, Memory>
     ensures among { IfOk result (λ f. f ≡ found_among routes.now method.now path.now) }
@@ -48,7 +48,7 @@ fn find_among(alloc: Global, routes: &Routes, method: &Txt, path: &Txt) -> Resul
     }
 }
 
-// What the method finds at the route of the path.
+// What the method finds at the route that the path found.
 fn find_at(alloc: Global, route: &Route, method: &Txt, path: &Txt) -> Result<Found, Memory>
     ensures { IfOk result (λ f. f ≡ found_by (view_for route.now (verb_of method.now)) route.now
         path.now) }

@@ -6,14 +6,14 @@ use form_urlencoded::parse;
 use jac_value::{List, Memory, TryClone, Txt};
 use std::alloc::Global;
 
-/// A name and its value, decoded. Bytes that are not UTF-8 stand as U+FFFD.
+/// A name and its value, decoded. Bytes that are not UTF-8 become U+FFFD.
 #[derive(Drop)]
 pub struct Pair {
     pub name: Txt,
     pub value: Txt,
 }
 
-/// Pairs in their order.
+/// Pairs, in order.
 pub type Pairs = List<Pair>;
 
 impl Pair {
@@ -43,7 +43,7 @@ pub fn pairs_of(alloc: Global, query: &[u8], body: &[u8]) -> Result<Pairs, Memor
     Ok(Pairs::from_vec(pairs))
 }
 
-// Adds the pairs that the bytes write.
+// Adds the pairs that the bytes encode.
 fn add_pairs(alloc: Global, bytes: &[u8], pairs: &mut Vec<Pair>) -> Result<(), Memory>
     ensures { OnOk result (pairs.new.items ≡ pairs.old.items ++ pairs_in bytes.now) }
 {
@@ -56,7 +56,7 @@ fn add_pairs(alloc: Global, bytes: &[u8], pairs: &mut Vec<Pair>) -> Result<(), M
     Ok(())
 }
 
-// The value of the first pair of this name.
+// The value of the first pair with this name.
 pub(crate) fn find_value<'p>(pairs: &'p [Pair], name: &Txt) -> Option<&'p Txt>
     ensures { option_copied result ≡ value_of_name name.now pairs.now }
 {

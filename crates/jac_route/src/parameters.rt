@@ -12,8 +12,8 @@ use jac_lang::{App, Binding, Field, Fields, KindName, Models, PlainEnv, model_of
 use jac_value::{Id, Kind, Memory, Txt, Value, default_of, is_id, value_of};
 use std::alloc::Global;
 
-/// Each parameter of a view, bound to what the first pair of its name reads as, among those of the
-/// path and then the others. What is missing or doesn't read is the default of the kind.
+/// Binds each parameter of a view to the value of the first pair with its name, in the path's pairs
+/// and then in the others. A value that is missing or can't be read is the default of the kind.
 pub fn bind(
     alloc: Global,
     params: &Fields,
@@ -50,7 +50,7 @@ fn bind_one(
     Ok(Binding { name, bound_to })
 }
 
-// The value of the first pair of this name, among the first pairs and then the others.
+// The value of the first pair with this name, in the first list and then in the second.
 #[tactic(auto, using(crate::proofs::PairLaws::value_in_both))]
 fn value_in<'p>(path: &'p Pairs, rest: &'p Pairs, name: &Txt) -> Option<&'p Txt>
     ensures { option_copied result ≡ value_of_name name.now (path.now ++ rest.now) }
@@ -85,8 +85,8 @@ fn read_text(alloc: Global, kind: &Kind, text: &Txt) -> Result<Value, Memory>
     }
 }
 
-/// The kind of this name, where a reference has the number of its model. A model's name that no
-/// model has counts as the number of the models.
+/// The kind with this name. A reference has the number of its model, or the number of models if
+/// there is no such model.
 pub fn kind_by_name(app: &App, kind: &KindName) -> Kind
     ensures { result ≡ kind_named (application_of app.now).models kind.now }
 {
@@ -114,7 +114,7 @@ fn count(models: &Models) -> u8
     models.as_slice().len() as u8
 }
 
-/// The record of who looks, or none where the number is no id of the viewer's model.
+/// The record of the viewer, or none if the number is no id of the viewer's model.
 pub fn viewer_id(number: u128, app: &App) -> Option<Id>
     ensures { result ≡ viewer_of (application_of app.now) number }
 {

@@ -10,7 +10,7 @@ use jac_value::{Memory, Txt, first_part, segment_name, segments_of};
 use percent_encoding::percent_decode;
 use std::alloc::Global;
 
-// What a path gives to the names in a pattern that it fits.
+// The values that a path gives to the names in a pattern that it fits.
 pub(crate) fn path_pairs(alloc: Global, pattern: &Txt, path: &Txt) -> Result<Pairs, Memory>
     ensures { IfOk result (λ pairs. pairs ≡ path_pairs pattern.now path.now) }
 {
@@ -57,7 +57,7 @@ fn read_pair(alloc: Global, name: &[u8], part: &[u8]) -> Result<Pair, Memory>
     Ok(Pair { name, value })
 }
 
-// The text that a part of a path escapes.
+// The percent-decoded text of a part of a path.
 fn read_part(alloc: Global, part: &[u8]) -> Result<Txt, Memory>
     ensures { IfOk result (λ text. text ≡ part_text part.now) }
 {

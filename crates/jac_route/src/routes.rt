@@ -14,7 +14,7 @@ use std::alloc::Global;
 use std::collections::BTreeMap;
 use std::marker::Model;
 
-/// A pattern, with the number of its view for each method.
+/// A pattern, and the number of its view for each method.
 #[derive(Drop)]
 pub struct Route {
     pub pattern: Txt,
@@ -22,7 +22,7 @@ pub struct Route {
     pub post: Option<u32>,
 }
 
-/// The routes of an application: a pattern that views of two methods share stands once.
+/// The routes of an application. A pattern that views of two methods share is one route.
 #[derive(Drop)]
 pub struct Routes {
     router: Router<Route>,
@@ -31,10 +31,10 @@ pub struct Routes {
 /// Why an application has no routes.
 #[derive(Clone, Copy, PartialEq, Eq)]
 pub enum RouteFault {
-    /// The view of this number has the method and pattern of an earlier one, or a pattern that
-    /// can't stand beside the earlier ones.
+    /// The view with this number has the method and pattern of an earlier one, or a pattern that is
+    /// invalid or conflicts with that of an earlier one.
     Clash(u32),
-    /// A growth was refused, or there are more views than numbers.
+    /// Out of memory, or too many views.
     Memory,
 }
 
@@ -47,7 +47,7 @@ impl Model for Routes {
 }
 
 impl Routes {
-    /// The views of the pattern that the path finds.
+    /// The route that the path finds.
     pub(crate) fn route_at(&self, path: &Txt) -> Option<&Route>
         ensures { option_map (λ r. r.now) result ≡ option_map (λ row. row.value)
             (first self.now path.now) }
@@ -59,7 +59,7 @@ impl Routes {
     }
 }
 
-/// The routes of the views, each pattern as the crate `matchit` reads it.
+/// The routes of the views. `matchit` parses each pattern.
 pub fn routes_of(alloc: Global, app: &App) -> Result<Routes, RouteFault>
     ensures ok { IfOk result (λ routes. AreRoutes (application_of app.now) routes) }
     ensures clash { IfErr result (λ e. Clashes e (table_of (application_of app.now))) }
@@ -87,7 +87,7 @@ fn router_of(alloc: Global, views: &[View]) -> Result<Router<Route>, RouteFault>
     }
 }
 
-// The routes of the views, by the first views of each pattern.
+// The routes of the views, given the first views of each pattern.
 fn router_by(
     alloc: Global,
     firsts: &BTreeMap<Txt, FirstViews>,
@@ -116,7 +116,7 @@ fn router_by(
     Ok(router)
 }
 
-// Adds the view of this number: a pattern that an earlier view has too is there already.
+// Adds the view with this number. If an earlier view has the same pattern, it has a route already.
 fn add_view(
     alloc: Global,
     first: FirstViews,
@@ -170,7 +170,7 @@ fn fault_of(number: u32, error: &InsertError) -> RouteFault
     }
 }
 
-// A pattern and the views that have it.
+// The route of a pattern with these first views.
 fn route_by(alloc: Global, first: FirstViews, pattern: &Txt) -> Result<Route, Memory>
     ensures { IfOk result (λ route. route ≡ route_by first pattern.now) }
 {

@@ -11,23 +11,23 @@ use jac_value::{Id, Memory, Txt, first_part, is_session_token, read_viewer};
 use std::alloc::Global;
 use std::marker::Model;
 
-/// A token, and the number of the record that looks by it; nobody looks by a session without one.
+/// A token, and the number of the viewer's record. A session without one has no viewer.
 #[derive(Drop)]
 pub struct Session {
     pub token: Txt,
     pub viewer: Option<u128>,
 }
 
-/// Sessions in their order.
+/// Sessions, in order.
 #[derive(Drop)]
 pub struct Sessions {
     sessions: Vec<Session>,
 }
 
-/// Why a file has no sessions.
+/// Why a sessions file can't be read.
 #[derive(Clone, Copy, PartialEq, Eq)]
 pub enum SessionFault {
-    /// The first line that is neither empty nor a session, by its number from 1.
+    /// The number, from 1, of the first line that is neither empty nor a session.
     BadLine(u64),
     Memory,
 }
@@ -68,7 +68,7 @@ impl Sessions {
     }
 }
 
-/// The sessions of a file's lines `TOKEN VIEWER`, each ended by LF, which the last may lack.
+/// The sessions of a file with lines `TOKEN VIEWER`. Each ends with LF, which the last may lack.
 pub fn sessions_of(alloc: Global, bytes: &[u8]) -> Result<Sessions, SessionFault>
     ensures ok { IfOk result (λ sessions. sessions_in bytes.now ≡ Ok sessions) }
     ensures bad_line { IfErr result (λ e. Refuses e (sessions_in bytes.now)) }
@@ -88,7 +88,7 @@ pub fn sessions_of(alloc: Global, bytes: &[u8]) -> Result<Sessions, SessionFault
     Ok(Sessions { sessions })
 }
 
-// The session of the line of this number; an empty line has none.
+// The session of the line with this number. An empty line has none.
 fn read_line(alloc: Global, number: u64, line: &[u8]) -> Result<Option<Session>, SessionFault>
     ensures ok { IfOk result (λ session. line_read number line.now ≡ Ok session) }
     ensures bad_line { IfErr result (λ e. Refuses e (line_read number line.now)) }
@@ -131,7 +131,7 @@ fn push_listed(session: Option<Session>, sessions: &mut Vec<Session>) -> Result<
     }
 }
 
-/// The record that looks by a token.
+/// The viewer's record for a token.
 pub fn viewer_of(sessions: &Sessions, token: Option<&Txt>, app: &App) -> Option<Id>
     ensures { result ≡ session_viewer sessions.now (option_copied token.entry)
         (application_of app.now) }
@@ -145,7 +145,7 @@ pub fn viewer_of(sessions: &Sessions, token: Option<&Txt>, app: &App) -> Option<
     }
 }
 
-// The first session of the token.
+// The first session with the token.
 fn find_session<'s>(sessions: &'s [Session], token: &Txt) -> Option<&'s Session>
     ensures { option_copied result ≡ session_named token.now sessions.now }
 {

@@ -25,7 +25,7 @@ fn space(line: &[u8]) -> Option<usize>
     line.iter().position(|byte| *byte == b' ')
 }
 
-// The text of letters, digits, `-` and `_`.
+// The bytes, which are letters, digits, `-` and `_`, as a text.
 #[tactic(auto, using(crate::proofs::AsciiLaws::utf8_atom))]
 pub(crate) fn atom_text(alloc: Global, bytes: &[u8]) -> Result<Txt, Memory>
     requires { list_all is_atom_byte bytes.now ≡ true }

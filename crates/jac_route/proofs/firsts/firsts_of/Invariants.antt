@@ -4,7 +4,7 @@ use Rattle.jac_lang.specs.Mirror.{pages_of}
 use Rattle.jac_route.specs.Firsts.{firsts_from, firsts_at}
 use Rattle.jac_route.proofs.firsts.firsts_of.Given as goal
 
--- the map has the views behind those that are left
+-- The map has the first views among those that follow the ones left.
 abbrev pub invariant-views : goal.invariant-views
 invariant-views l =
     (behind : List View) × (l.views ≡ l.left ++ behind)

@@ -3,7 +3,7 @@ use Rattle.jac_value.specs.Parts.{parts_left, option_now, length_left}
 use Rattle.jac_route.specs.PathPairs.{pairs_at, path_pairs}
 use Rattle.jac_route.proofs.parts.path_pairs.Given as goal
 
--- the pairs so far, before those of the segments that are left
+-- The pairs so far, followed by those of the segments that are left, are the result.
 abbrev pub invariant-segments : goal.invariant-segments
 invariant-segments l = l.pairs.items ++ pairs_at (parts_left 47 (option_now l.segments)) (parts_left 47 (option_now l.parts)) ≡ path_pairs l.pattern l.path
 

@@ -3,7 +3,7 @@ use Rattle.jac_lang.specs.Mirror.{pages_of}
 use Rattle.jac_route.specs.Firsts.{firsts_at, table_by}
 use Rattle.jac_route.proofs.routes.router_by.Given as goal
 
--- the table so far, with the views that are left
+-- The table so far, with the views that are left, is the result.
 abbrev pub invariant-views : goal.invariant-views
 invariant-views l =
     (l.number ≡ l.view-index)
