@@ -1,4 +1,4 @@
--- Cells of a kind: how each field of a spelling is refined by the next.
+-- Cells of a kind: each field of a spelling leads on to the next.
 use Rattle.std.proofs.Common.{◌≡◌, refl, sym, ap, subst, ◌∙◌, ℕ, zero, suc, ◌+◌, ◌*◌, ◌/◌, ◌%◌, ◌^◌, ◌<◌, ◌≤◌, Bool, true, false, List, [], ◌∷◌, ◌++◌, length, append_assoc, append-nil, ◌↔◌, ◌==◌, if◌then◌else◌, nat_lt, Some, None, inl, arith, rules}
 use Rattle.std.proofs.lemmas.Nat.{div-mul-add, mod-mul-add}
 use Rattle.std.proofs.lemmas.List.{nil_from_length, length-replicate}
@@ -27,7 +27,7 @@ pub lifted : (L M : List ℕ → Type 0) (bytes bs : List ℕ) → ((n : ℕ) �
 lifted L M bytes bs f (stops.Left n) s = f n s
 lifted L M bytes bs f stops.Memory s = tt
 
--- each right spelling begins with a word, and each word goes on
+-- Each right spelling begins with a word, and each word can go on to a right spelling.
 pub by_refined : {X : Type 0} (Is : X → Type 0) (spell : X → List ℕ) (L : List ℕ → Type 0) → ((t : List ℕ) → L t → Led Is spell t) → ((x : X) → Is x → GoesOn L (spell x))
     → (bytes : List ℕ) (e : Stop) → StopsBy (Led Is spell) bytes e → StopsBy L bytes e
 by_refined Is spell L begins goes bytes e s = lifted L (Led Is spell) bytes bytes (λ n t. stops_refined Is spell L begins goes bytes n t) e s
@@ -35,7 +35,7 @@ by_refined Is spell L begins goes bytes e s = lifted L (Led Is spell) bytes byte
 pub by_behind : (L M : List ℕ → Type 0) (lead bytes rest : List ℕ) → bytes ≡ lead ++ rest → ((t : List ℕ) → L (lead ++ t) ↔ M t) → (e : Stop) → StopsBy M rest e → StopsBy L bytes e
 by_behind L M lead bytes rest split same e s = lifted L M bytes rest (λ n t. subst (λ b. Stops L b n) (sym split) (stops_behind L M lead rest n same t)) e s
 
--- a tag
+-- A tag.
 
 tagged : (k : Kind) (v : Value) → has_kind k v ≡ true → cell_bytes v ≡ tag_of k ∷ text_body v
 tagged kinds.Int (values.Int i) e = refl
@@ -98,7 +98,7 @@ cell_read k bytes rest after n v number read = record {
   split = tag_split k bytes rest n number ∙ (ap (λ x. tag_of k ∷ x) read.split ∙ ap (λ x. x ++ after) (sym (tagged k v read.of_kind.fit)));
 }
 
--- an integer
+-- An integer.
 
 begin_int : (t : List ℕ) (v : Value) (after : List ℕ) → IsOf kinds.Int v → t ≡ text_body v ++ after → Numbers 0 0xFFFF_FFFF_FFFF_FFFF 8 t
 begin_int t (values.Int i) after is split =
@@ -133,7 +133,7 @@ int_read bytes rest n number = record {
   split = number.split ∙ ap (λ y. bytes_high_first 8 y ++ rest) (sym (int_back n number.between.to));
 }
 
--- a truth value
+-- A truth value.
 
 pub sign_number : (b : Bool) → IsBetween 0 1 (sign_byte b) × (bytes_high_first 1 (sign_byte b) ≡ sign_byte b ∷ [])
 sign_number true = (record { from = omega arith; to = omega arith }, refl)
@@ -168,7 +168,7 @@ truth_stops bytes = by_behind (BodiesOf kinds.Bool) Signs [] bytes bytes refl
 pub truth_read : (bytes rest : List ℕ) (b : Bool) → bytes ≡ sign_bytes b ++ rest → IsBodyOf kinds.Bool bytes (values.Bool b) rest
 truth_read bytes rest b split = record { of_kind = truth_is b; split = split }
 
--- the last byte of an id
+-- The last byte of an id.
 
 last_goes : (m : ℕ) → m < 64 → GoesOn (LastsOf m) []
 last_goes m small = (m ∷ [], record { thing = m; is = (omega (arith, small), omega (arith, small)); after = []; split = refl })
@@ -186,7 +186,7 @@ last_never m b other goes =
 pub last_out : (m b : ℕ) (bytes rest : List ℕ) → m < 64 → bytes ≡ b ∷ rest → ¬ (b % 64 ≡ m) → Stops (LastsOf m) bytes (length bytes)
 last_out m b bytes rest small split other = subst (λ x. Stops (LastsOf m) x (length x)) (sym split) (stops_here (LastsOf m) b rest (last_goes m small) (last_never m b other))
 
--- a reference; a model from 64 on has no ids
+-- A reference. No model from 64 on has ids.
 
 one_if : (m : ℕ) → m < 64 → most_sign m ≡ 1
 one_if m small = let e : nat_lt m 64 ≡ true = grind (arith, nat_tests, small) in rw e refl
@@ -261,7 +261,7 @@ some_read m n id bytes rest after number some read = record {
   split = some_split m n bytes rest number some ∙ ap (λ x. 1 ∷ x) read.split;
 }
 
--- a text after its length
+-- A text after its length.
 
 zero_at : (n i : ℕ) → slice_index (replicate n 0) i < 128
 zero_at zero i = omega arith

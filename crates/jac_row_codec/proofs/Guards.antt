@@ -13,7 +13,7 @@ use Rattle.jac_row_codec.proofs.Numbers.{one_spelled}
 use Rattle.jac_row_codec.proofs.Cells.{by_refined, by_behind, lifted}
 use Rattle.jac_row_codec.proofs.Rows.{head_of, tail_of, truth_once}
 
--- a first label above the one before it
+-- The first label is greater than the one before it.
 above : (k : ℕ) (g : List (ℕ × Bool)) → StartsFrom (k + 1) g → StartsAboveBy (λ p. p.0) k g
 above k [] from = tt
 above k (p ∷ ps) from = let f : k + 1 ≤ p.0 = from in omega (arith, f)
@@ -36,11 +36,11 @@ tail_from low p g is =
     let from : low ≤ p.0 = is.from in
     (record { from = from; to = omega (arith, room) }, record { guard = record { rising = is.guard.rising.1; labels = is.guard.labels.1 }; from = from_above p.0 g is.guard.rising.0 })
 
--- a label has bytes
+-- The bytes of a label aren't empty.
 no_bytes : (k : ℕ) (t : List ℕ) → ¬ (bytes_high_first 16 k ++ t ≡ [])
 no_bytes k t e = let f : byte_at 15 k ∷ (bytes_high_first 15 k ++ t) ≡ [] = e in cc
 
--- the pairs of a guard from a label on, and at least one
+-- At least one pair of a guard. The labels are `low` or more.
 abbrev pub SomeFrom : ℕ → List ℕ → Type 0
 SomeFrom low bytes = (p : ℕ × Bool) × (g : List (ℕ × Bool)) × IsGuardFrom low (p ∷ g) × (bytes ≡ guard_bytes (p ∷ g))
 
@@ -52,7 +52,7 @@ some_stops low = by_refined (IsBetween low (2 ^ 128 - 1)) (bytes_high_first 16) 
     (λ t s. record { thing = s.0.0; is = (tail_from low s.0 s.1 s.2).0; after = sign_byte s.0.1 ∷ guard_bytes s.1; split = s.3 })
     (λ k between. label_goes low k between)
 
--- where bytes are left, there is a pair
+-- If bytes are left, there is a pair.
 some_of : (low b : ℕ) (bs : List ℕ) (g : List (ℕ × Bool)) → IsGuardFrom low g → b ∷ bs ≡ guard_bytes g → SomeFrom low (b ∷ bs)
 some_of low b bs [] is e = cc
 some_of low b bs (p ∷ ps) is e = (p, ps, is, e)
@@ -73,12 +73,12 @@ widened low n (b ∷ bs) some s = record {
     longer [] c more low is = some_of low c more is.0 is.1 is.2
     longer (x ∷ front) c more low is = some_of low x ((front ++ c ∷ []) ++ more) is.0 is.1 is.2
 
--- a label that isn't there
+-- No label can be read.
 
 pub label_stops : (low : ℕ) (bytes : List ℕ) → 0 < length bytes → (e : Stop) → StopsBy (Numbers low (2 ^ 128 - 1) 16) bytes e → StopsBy (SpellsFrom low) bytes e
 label_stops low bytes some e s = lifted (SpellsFrom low) (SomeFrom low) bytes bytes (λ n t. widened low n bytes some t) e (some_stops low bytes e s)
 
--- the sign of a label, and a guard after it
+-- The sign of a label, and the rest of the guard.
 abbrev pub SignThen : ℕ → List ℕ → Type 0
 SignThen low bytes = (b : Bool) × (g : List (ℕ × Bool)) × IsGuardFrom low g × (bytes ≡ sign_byte b ∷ guard_bytes g)
 
@@ -110,7 +110,7 @@ pair_stops low k bytes rest number e s =
 pub pair_read : (low k : ℕ) (b : Bool) (bytes rest after : List ℕ) → IsNumber low (2 ^ 128 - 1) 16 bytes k rest → rest ≡ sign_bytes b ++ after → IsPairIn low bytes (k, b) after
 pair_read low k b bytes rest after number split = record { between = number.between; split = number.split ∙ ap (λ x. bytes_high_first 16 k ++ x) split }
 
--- after the greatest label there is none
+-- After the greatest label there is no pair.
 
 none_behind : (b : ℕ) (more : List ℕ) (g : List (ℕ × Bool)) → IsGuardFrom (2 ^ 128) g → ¬ (b ∷ more ≡ guard_bytes g)
 none_behind b more [] is e = cc
@@ -124,7 +124,7 @@ pub greatest_stops : (low : Option ℕ) (bytes : List ℕ) → low ≡ None → 
 greatest_stops None bytes none some = full_stops bytes some
 greatest_stops (Some low) bytes none some = cc
 
--- a guard pair by pair
+-- A guard, pair by pair.
 
 spells_all : (t : List ℕ) → SpellsGuard t ↔ SpellsFrom 0 t
 spells_all t = ((λ s. (s.0, record { guard = s.1; from = from_zero s.0 }, s.2)), (λ s. (s.0, s.1.guard, s.2)))
@@ -153,7 +153,7 @@ guard_step jvars made low k b rest after so_far read = record {
       (stops_behind (SignThen (k + 1)) (SpellsFrom (k + 1)) (sign_byte b ∷ []) after n (same_sign (k + 1) b) s)));
 }
 
--- the least label that may come next
+-- The least label that may come next.
 pub next_is : (k : ℕ) (low : Option ℕ) → k < 2 ^ 128 → SomeIff low (k + 1 < 2 ^ 128) (k + 1) → next_low low ≡ k + 1
 next_is k None fits is = omega (arith, fits, is)
 next_is k (Some low) fits is = is.1
@@ -181,7 +181,7 @@ pair_shorter low bytes pair after read =
 pub guard_rises : (jvars : List ℕ) (g : List (ℕ × Bool)) → IsSpelledGuard jvars g → IsRising g
 guard_rises jvars g is = is.guard.rising
 
--- a guard is spelled once
+-- A guard is spelled in one way only.
 
 pub guard_once : (g h : List (ℕ × Bool)) → IsGuard g → IsGuard h → guard_bytes g ≡ guard_bytes h → g ≡ h
 guard_once [] [] is also e = refl

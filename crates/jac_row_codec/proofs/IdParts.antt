@@ -5,7 +5,7 @@ use Rattle.std.proofs.lemmas.Bool.{and_parts}
 use Rattle.jac_value.specs.Ids.{is_id_of, is_narrow, is_wide}
 use Rattle.jac_row_codec.specs.Reading.{least_next}
 
--- the fourteen bytes in front of an id
+-- The number in the first fourteen bytes of an id.
 abbrev pub IsFront : ℕ → Type 0
 IsFront z = (z < 0x10_0000_0000) ⊎ ((0x1_0000_0000_0000 ≤ z) × (z < 0x100_0000_0000_0000_0000_0000))
 

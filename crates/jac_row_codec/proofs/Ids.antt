@@ -14,7 +14,7 @@ use Rattle.jac_row_codec.proofs.Numbers.{byte_is, power_pos, one_number, one_spe
 use Rattle.jac_row_codec.proofs.Cells.{by_refined, by_behind}
 use Rattle.jac_row_codec.proofs.IdParts.{IsFront, AreIdParts, id_parts, whole_id}
 
--- bytes after bytes
+-- Bytes after bytes.
 by_powers : (j k n : ℕ) → n / 256 ^ (j + k) ≡ n / 256 ^ k / 256 ^ j
 by_powers j k n =
     let same : j + k ≡ k + j = omega arith in
@@ -27,7 +27,7 @@ apart (suc j) k n =
     let longer : suc j + k ≡ suc (j + k) = omega arith in
     ap (λ i. bytes_high_first i n) longer ∙ (ap (λ b. b ∷ bytes_high_first (j + k) n) first ∙ ap (λ l. byte_at j (n / 256 ^ k) ∷ l) (apart j k n))
 
--- bytes say nothing of what is above them
+-- The last bytes of a number don't depend on what is above them.
 pub low_only : (k q r : ℕ) → bytes_high_first k (q * 256 ^ k + r) ≡ bytes_high_first k r
 low_only zero q r = refl
 low_only (suc k) q r =
@@ -37,7 +37,7 @@ low_only (suc k) q r =
     ap (λ x. bytes_high_first (suc k) (x + r)) power
     ∙ (ap (λ b. b ∷ bytes_high_first k (q * 256 * 256 ^ k + r)) byte ∙ ap (λ l. byte_at k r ∷ l) (low_only k (q * 256) r))
 
--- what bytes leave to read
+-- What remains to be read after some bytes.
 pub derived_by : (Is : ℕ → Type 0) (j k value x : ℕ) → x < 256 ^ j → (t : List ℕ) → BehindOf Is (j + k) value (bytes_high_first j x ++ t) ↔ BehindOf Is k (value * 256 ^ j + x) t
 derived_by Is j k value x small t =
     let high : (value * 256 ^ j + x) / 256 ^ j ≡ value = div-mul-add value (256 ^ j) x small in (
@@ -58,7 +58,8 @@ derived_by Is j k value x small t =
           }),
     )
 
--- the next bytes are a number of a range, where each such number leads on, and no other
+-- The next bytes are a number of this range. Each number of the range can go on to a right
+-- spelling, and no other can.
 pub refined : (Is : ℕ → Type 0) (j k value low high : ℕ) → high < 256 ^ j → ((n : ℕ) → Is n → n / 256 ^ (j + k) ≡ value → IsBetween low high (n / 256 ^ k % 256 ^ j))
     → ((x : ℕ) → IsBetween low high x → (n : ℕ) × Is n × (n / 256 ^ k ≡ value * 256 ^ j + x))
     → (bytes : List ℕ) (e : Stop) → StopsBy (Numbers low high j) bytes e → StopsBy (BehindOf Is (j + k) value) bytes e
@@ -90,7 +91,7 @@ refined Is j k value low high wide within some = by_refined (IsBetween low high)
 joined : (j k value x n : ℕ) → n / 256 ^ k ≡ value * 256 ^ j + x → bytes_high_first j x ++ bytes_high_first k n ≡ bytes_high_first (j + k) n
 joined j k value x n read = ap (λ b. b ++ bytes_high_first k n) (sym (low_only j value x) ∙ ap (λ y. bytes_high_first j y) (sym read)) ∙ sym (apart j k n)
 
--- an id in the middle of being read
+-- A part of the id has been read.
 pub record IsHalf (m left value : ℕ) (bytes rest : List ℕ) : Type 0 where
   pub spelled : (n : ℕ) (after : List ℕ) → n / 256 ^ left ≡ value → rest ≡ bytes_high_first left n ++ after → bytes ≡ bytes_high_first 16 n ++ after
   pub stops : (e : Stop) → StopsBy (BehindOf (IsOfModel m) left value) rest e → StopsBy (IdsOf m) bytes e
@@ -117,7 +118,7 @@ half_step m j k value x low high bytes rest after wide half number =
           (derived_by (IsOfModel m) j k value x small) e s);
     }
 
--- the four steps
+-- The four steps.
 
 front_by : (top middle : ℕ) (b : Bool) → (top == 0) ≡ b → top ≤ most_top → middle ≤ if◌then◌else◌ {A = ℕ} b 0xF_FFFF_FFFF 0xFFFF_FFFF_FFFF → IsFront (top * 0x1_0000_0000_0000 + middle)
 front_by top middle true e to less = let none : top ≡ 0 = grind (arith, nat_tests, e) in inl (omega (arith, none, less))
@@ -146,7 +147,7 @@ pub least_fits : (b : Bool) → if◌then◌else◌ {A = ℕ} b 16 0 ≤ 255
 least_fits true = omega arith
 least_fits false = omega arith
 
--- the id with the least parts that are left
+-- An id with the least bytes for those that aren't read yet.
 some_id : (m z x : ℕ) → m < 64 → IsFront z → least_next z ≤ x → x < 256 → is_id_of ((z * 256 + x) * 256 + m) m ≡ true
 some_id m z x small front least fits = whole_id z x m m least fits (omega (arith, small)) (omega (arith, small)) front small
 
@@ -241,7 +242,7 @@ id_read m top middle next b small bytes rest after then' end number more last is
           (split ∙ ap (λ y. y ++ end) (sym (one_last (z * 256 + next) b byte)));
     }
 
--- an id alone
+-- An id alone.
 
 alone : (m id : ℕ) (bytes : List ℕ) → IsIdOf bytes m id → bytes ≡ bytes_high_first 16 id ++ []
 alone m id bytes is = is.spelled ∙ sym (append-nil (bytes_high_first 16 id))

@@ -24,7 +24,7 @@ byte_is (suc k) n = refl
 div_rises : (a b k : ℕ) → a ≤ b → a / 256 ^ k ≤ b / 256 ^ k
 div_rises a b k le = let below = div-mul-le_self a (256 ^ k) in (le-div_iff_mul-le (power_pos k)).1 (omega (arith, le, below))
 
--- one byte more of a number
+-- One more byte of a number.
 more_read : (n k value b : ℕ) → n / 256 ^ suc k ≡ value → b ≡ byte_at k n → n / 256 ^ k ≡ value * 256 + b
 more_read n k value b read byte =
     let whole = div-add-mod' (n / 256 ^ k) 256 in
@@ -36,7 +36,7 @@ less_read : (n k value b : ℕ) → b < 256 → n / 256 ^ k ≡ value * 256 + b 
 less_read n k value b small read =
     (one_more n k ∙ ap (λ x. x / 256) read ∙ div-mul-add value 256 b small, sym (byte_is k n ∙ ap (λ x. x % 256) read ∙ mod-mul-add value 256 b small))
 
--- what a first byte leaves to read
+-- What remains to be read after the first byte.
 pub derived : (low high left value b : ℕ) → b < 256 → (t : List ℕ) → NumbersBehind low high (suc left) value (b ∷ t) ↔ NumbersBehind low high left (value * 256 + b) t
 derived low high left value b small t = (
   (λ l. let head : b ≡ byte_at left l.thing = cc in
@@ -51,7 +51,7 @@ derived low high left value b small t = (
       }),
 )
 
--- between the two ends there is a number
+-- There is a number between the two bounds.
 some_number : (low high left value : ℕ) → low ≤ high → low / 256 ^ left ≤ value → value ≤ high / 256 ^ left → (n : ℕ) × IsBehind low high left value n
 some_number low high left value order from to =
     let pos = power_pos left in
@@ -107,7 +107,7 @@ short_of low high width bytes left value h order =
     h.stops 0 (stops_at_end (NumbersBehind low high (suc left) value) (number_goes low high (suc left) value order h.from h.to)
     (λ l. let e : [] ≡ byte_at left l.thing ∷ (bytes_high_first left l.thing ++ l.after) = l.split in cc))
 
--- the bytes end before the number does
+-- The bytes end before the number does.
 pub half_short : (low high width : ℕ) (bytes : List ℕ) (left value : ℕ) (more : List ℕ) → Halfway low high width bytes left value more → length more ≡ 0 → 0 < left → low ≤ high → Stops (Numbers low high width) bytes 0
 half_short low high width bytes left value more h none some order =
     short_of low high width bytes (left - 1) value (subst (λ k. Halfway low high width bytes k value []) (sym (one_less left some)) (subst (λ l. Halfway low high width bytes left value l) (nil_from_length more none) h)) order
@@ -117,7 +117,7 @@ out_of : (low high width : ℕ) (bytes : List ℕ) (left value b : ℕ) (rest : 
 out_of low high width bytes left value b rest h order small out =
     h.stops (length (b ∷ rest)) (stops_here (NumbersBehind low high (suc left) value) b rest (number_goes low high (suc left) value order h.from h.to) (never_behind low high left value b small out))
 
--- the next byte leads out of the range
+-- With the next byte, the number is out of the range.
 pub half_out : (low high width : ℕ) (bytes : List ℕ) (left value b : ℕ) (rest more : List ℕ) → Halfway low high width bytes left value more → more ≡ b ∷ rest → 0 < left → low ≤ high → b < 256
     → ¬ ((low / 256 ^ (left - 1) ≤ value * 256 + b) × (value * 256 + b ≤ high / 256 ^ (left - 1))) → Stops (Numbers low high width) bytes (length more)
 half_out low high width bytes left value b rest more h is some order small out =
@@ -130,11 +130,11 @@ end_of low high width bytes value more h = record {
   split = h.spelled value more (div-one value) refl;
 }
 
--- all bytes of the number were read
+-- All bytes of the number were read.
 pub half_end : (low high width : ℕ) (bytes : List ℕ) (left value : ℕ) (more : List ℕ) → Halfway low high width bytes left value more → left ≡ 0 → IsNumber low high width bytes value more
 half_end low high width bytes left value more h none = end_of low high width bytes value more (subst (λ k. Halfway low high width bytes k value more) none h)
 
--- while bytes are left, one byte more has room
+-- If bytes of the number are left, there is room for one more byte.
 pub half_room : (low high width : ℕ) (bytes : List ℕ) (left value : ℕ) (more : List ℕ) → Halfway low high width bytes left value more → 0 < left → value * 256 ≤ high
 half_room low high width bytes left value more h some =
     let to : value ≤ high / 256 ^ (left - 1) / 256 = subst (λ x. value ≤ x) (ap (λ k. high / 256 ^ k) (sym (one_less left some)) ∙ one_more high (left - 1)) h.to in
@@ -142,21 +142,21 @@ half_room low high width bytes left value more h some =
     let whole = div-le_self high (256 ^ (left - 1)) in
     omega (arith, less, whole)
 
--- eight bits a byte
+-- A byte has eight bits.
 pub by_bytes : (k : ℕ) → 2 ^ (8 * k) ≡ 256 ^ k
 by_bytes zero = refl
 by_bytes (suc k) =
     let e : 8 * suc k ≡ 8 * k + 8 = omega arith in
     ap (λ x. 2 ^ x) e ∙ (pow-add 2 (8 * k) 8 ∙ (ap (λ x. x * 256) (by_bytes k) ∙ sym (pow-suc 256 k)))
 
--- a range test, as facts
+-- A range test that failed.
 pub outside : (a n b : ℕ) → (nat_le a n && nat_le n b) ≡ false → ¬ ((a ≤ n) × (n ≤ b))
 outside a n b not_so both = let from = both.0 in let to = both.1 in absurd (grind (arith, nat_tests, not_so, from, to))
 
 pub inside : (a n b : ℕ) → (nat_le a n && nat_le n b) ≡ true → (a ≤ n) × (n ≤ b)
 inside a n b is_so = (grind (arith, nat_tests, is_so), grind (arith, nat_tests, is_so))
 
--- bytes spell one number in front
+-- Bytes begin with one number only.
 pub one_number : (k x y : ℕ) (s t : List ℕ) → x / 256 ^ k ≡ y / 256 ^ k → bytes_high_first k x ++ s ≡ bytes_high_first k y ++ t → (x ≡ y) × (s ≡ t)
 one_number zero x y s t same e = (sym (div-one x) ∙ same ∙ div-one y, e)
 one_number (suc k) x y s t same e =
@@ -164,11 +164,11 @@ one_number (suc k) x y s t same e =
     let tail : bytes_high_first k x ++ s ≡ bytes_high_first k y ++ t = cc in
     one_number k x y s t (more_read x k (y / 256 ^ suc k) (byte_at k x) same refl ∙ sym (more_read y k (y / 256 ^ suc k) (byte_at k x) refl head)) tail
 
--- the same, where both have room
+-- The same, if both numbers fit.
 pub one_spelled : (k x y : ℕ) (s t : List ℕ) → x < 256 ^ k → y < 256 ^ k → bytes_high_first k x ++ s ≡ bytes_high_first k y ++ t → (x ≡ y) × (s ≡ t)
 one_spelled k x y s t fits room e = one_number k x y s t (div-eq_of_lt fits ∙ sym (div-eq_of_lt room)) e
 
--- the last byte stands for itself
+-- The last byte, apart from the others.
 pub last_apart : (k n : ℕ) → bytes_high_first (suc k) n ≡ bytes_high_first k (n / 256) ++ (n % 256 ∷ [])
 last_apart zero n = refl
 last_apart (suc k) n =

@@ -1,4 +1,4 @@
--- A row is spelled once.
+-- A row is spelled in one way only.
 use Rattle.std.proofs.Common.{◌≡◌, sym, ◌∙◌, ℕ, List}
 use Rattle.jac_value.specs.declared.value.Kind.{Kind}
 use Rattle.jac_rows.specs.declared.row.Row.{Row}

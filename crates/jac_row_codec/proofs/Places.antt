@@ -1,10 +1,10 @@
--- From what is left after the longest front to its length.
+-- From how many bytes are left after the longest beginning to its length.
 use Rattle.std.proofs.Common.{◌≡◌, refl, sym, ap, subst, ◌∙◌, ℕ, zero, suc, ◌+◌, ◌-◌, ◌<◌, ◌≤◌, List, [], ◌∷◌, ◌++◌, length, take, append_assoc, arith}
 use Rattle.std.proofs.lemmas.List.{length-append, take_at}
 use Rattle.jac_row_codec.specs.Faults.{GoesOn, IsFault}
 use Rattle.jac_row_codec.specs.Reading.{Stops}
 
--- a longer front has the next byte
+-- A longer beginning has the next byte.
 next_byte : (front rest : List ℕ) (n : ℕ) → length front < n → n ≤ length (front ++ rest) → (b : ℕ) × (more : List ℕ) × (tail : List ℕ) × (rest ≡ b ∷ more) × (take n (front ++ rest) ≡ (front ++ b ∷ []) ++ tail)
 next_byte [] [] n over within = absurd (let w : n ≤ 0 = within in omega (arith, over, w))
 next_byte [] (b ∷ bs) zero over within = absurd (omega (arith, over))

@@ -20,7 +20,7 @@ use Rattle.jac_row_codec.proofs.Numbers.{one_spelled}
 use Rattle.jac_row_codec.proofs.Cells.{by_refined, lifted, default_is}
 use Rattle.jac_row_codec.proofs.IdParts.{id_parts}
 
--- cells in front and after
+-- The first cells, and the cells after them.
 
 defaults_are : (ks : List Kind) → SpellsCells ks (cells_bytes (map default_value ks))
 defaults_are [] = ([], record { fit = refl; each = tt }, refl)
@@ -43,7 +43,7 @@ cell_stops k ks = by_refined (IsOf k) cell_bytes (SpellsCells (k ∷ ks))
     (λ t s. first_begins k ks t s.0 s.1 s.2)
     (λ v is. let rest = defaults_are ks in (cells_bytes (map default_value ks), spelled_first k ks v (cells_bytes (map default_value ks)) is rest))
 
--- a cell of a kind is spelled once
+-- A cell of a kind is spelled in one way only.
 pub truth_once : (a b : Bool) → sign_byte a ≡ sign_byte b → a ≡ b
 truth_once true true e = refl
 truth_once false false e = refl
@@ -134,7 +134,7 @@ none_only t (v ∷ vs) fit e = let f : false ≡ true = fit in cc
 only_none : (t : List ℕ) → SpellsCells [] t → t ≡ []
 only_none t s = none_only t s.0 s.1.fit s.2
 
--- bytes after the last cell
+-- Bytes after the last cell.
 trailing : (b : ℕ) (bs : List ℕ) → Stops (SpellsCells []) (b ∷ bs) (length (b ∷ bs))
 trailing b bs = stops_here (SpellsCells []) b bs ([], ([], record { fit = refl; each = tt }, refl)) (λ goes. let e = only_none (b ∷ goes.0) goes.1 in cc)
 
@@ -150,7 +150,7 @@ cells_end kinds body made [] rest so_far all none =
     record { fit = subst (λ l. AreCells kinds l) same done.0; spelled = done.1 ∙ ap cells_bytes same }
 cells_end kinds body made (k ∷ ks) rest so_far all none = absurd (let f : suc (length ks) ≡ 0 = all in omega (arith, f))
 
--- cells of the kinds are spelled once
+-- Cells of these kinds are spelled in one way only.
 pub cells_once : (kinds : List Kind) (us vs : List Value) → AreCells kinds us → AreCells kinds vs → cells_bytes us ≡ cells_bytes vs → us ≡ vs
 cells_once [] [] [] is also e = refl
 cells_once [] (u ∷ us) vs is also e = let f : false ≡ true = is.fit in cc
@@ -164,6 +164,6 @@ cells_once (k ∷ ks) (u ∷ us) (v ∷ vs) is also e =
     let rest = cells_once ks us vs (record { fit = first.1; each = is.each.1 }) (record { fit = other.1; each = also.each.1 }) one.1 in
     λ i. one.0 i ∷ rest i
 
--- what is pushed in two steps
+-- Bytes that are pushed in two steps.
 pub two_pushed : (old mid new head tail all : List ℕ) → mid ≡ old ++ head → new ≡ mid ++ tail → all ≡ head ++ tail → new ≡ old ++ all
 two_pushed old mid new head tail all first second whole = second ∙ (ap (λ x. x ++ tail) first ∙ (append_assoc old head tail ∙ ap (λ x. old ++ x) (sym whole)))

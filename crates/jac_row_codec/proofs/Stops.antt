@@ -1,13 +1,13 @@
--- Readers that stop: what is so from here is so of the whole.
+-- Readers that stop: what holds of the bytes from here on holds of all bytes.
 use Rattle.std.proofs.Common.{◌≡◌, refl, sym, ap, subst, ◌∙◌, ℕ, List, [], ◌∷◌, ◌++◌, length, append_assoc, ◌↔◌, ◌⊎◌, inl, inr}
 use Rattle.jac_row_codec.specs.Faults.{GoesOn}
 use Rattle.jac_row_codec.specs.Reading.{Stops, Led}
 
--- the bytes end too early
+-- The bytes end too early.
 pub stops_at_end : (L : List ℕ → Type 0) → GoesOn L [] → ¬ (L []) → Stops L [] 0
 stops_at_end L goes wrong = record { front = []; rest = []; split = refl; long = refl; goes = goes; wrong = wrong; no_longer = λ b more e h. cc }
 
--- the first byte doesn't go on
+-- No right spelling begins with the first byte.
 pub stops_here : (L : List ℕ → Type 0) (b : ℕ) (bs : List ℕ) → GoesOn L [] → ¬ (GoesOn L (b ∷ [])) → Stops L (b ∷ bs) (length (b ∷ bs))
 stops_here L b bs goes never = record {
   front = [];
@@ -19,7 +19,7 @@ stops_here L b bs goes never = record {
   no_longer = λ c more e h. let same : c ≡ b = cc in never (subst (λ x. GoesOn L (x ∷ [])) same h);
 }
 
--- bytes in front that every spelling from here has
+-- Every right spelling begins with these bytes.
 pub stops_behind : (L M : List ℕ → Type 0) (lead bs : List ℕ) (n : ℕ) → ((t : List ℕ) → L (lead ++ t) ↔ M t) → Stops M bs n → Stops L (lead ++ bs) n
 stops_behind L M lead bs n same s = record {
   front = lead ++ s.front;
@@ -35,7 +35,7 @@ stops_behind L M lead bs n same s = record {
   );
 }
 
--- one of two fronts of the same bytes begins with the other
+-- Of two beginnings of the same bytes, one begins with the other.
 pub overlap : (a b c d : List ℕ) → a ++ b ≡ c ++ d → ((m : List ℕ) × (c ≡ a ++ m)) ⊎ ((m : List ℕ) × (a ≡ c ++ m))
 overlap [] b c d e = inl (c, refl)
 overlap (x ∷ a) b [] d e = inr (x ∷ a, refl)
@@ -47,7 +47,7 @@ overlap (x ∷ a) b (y ∷ c) d e =
       | inr w ↦ inr (w.0, ap (λ z. z ∷ a) head ∙ ap (λ l. y ∷ l) w.1)
     ]
 
--- each right spelling begins with a word, and each word goes on to one
+-- Each right spelling begins with a word, and each word can go on to a right spelling.
 pub stops_refined : {X : Type 0} (Is : X → Type 0) (spell : X → List ℕ) (L : List ℕ → Type 0)
     → ((t : List ℕ) → L t → Led Is spell t) → ((x : X) → Is x → GoesOn L (spell x))
     → (bytes : List ℕ) (n : ℕ) → Stops (Led Is spell) bytes n → Stops L bytes n

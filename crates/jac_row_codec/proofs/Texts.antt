@@ -13,7 +13,7 @@ use Rattle.jac_row_codec.specs.declared.text.Unread.{Unread}
 use Rattle.jac_row_codec.proofs.Stops.{stops_at_end, stops_here, stops_behind}
 use Rattle.jac_row_codec.proofs.Cells.{zeros_are}
 
--- characters as bytes
+-- Characters as bytes.
 
 two : (c : ℕ) → 128 ≤ c → c < 2048 → encode c ≡ (192 + c / 64) ∷ next c ∷ []
 unfolding encode
@@ -30,7 +30,7 @@ four c l = rw (le-ltb c 128 (omega arith), le-ltb c 2048 (omega arith), le-ltb c
 high_scalar : (c : ℕ) → 57344 ≤ c → c < 1114112 → scalar c ≡ true
 high_scalar c l h = rw (le-ltb c 55296 (omega arith), le-leb 57344 c l, lt-ltb c 1114112 h)
 
--- the bounds after a first byte, as numbers
+-- The bounds after a first byte, as numbers.
 
 pub least_is : (z : ℕ) → ((z ≡ 0xE0) × (least_second z ≡ 0xA0)) ⊎ (((z ≡ 0xF0) × (least_second z ≡ 0x90)) ⊎ ((z ≡ 0xE0 → ⊥) × (z ≡ 0xF0 → ⊥) × (least_second z ≡ 0x80)))
 least_is z =
@@ -67,7 +67,7 @@ lead_high b l h = grind (arith, nat_tests, l, h)
 lead_from : (b : ℕ) → is_lead b ≡ true → 128 ≤ b → (0xC2 ≤ b) × (b ≤ 0xF4)
 lead_from b is l = (grind (arith, nat_tests, is, l), grind (arith, nat_tests, is, l))
 
--- a first byte and what ends its character
+-- A first byte, and the bytes that end its character.
 
 abbrev pub FirstAndEnd : List ℕ → Type 0
 FirstAndEnd [] = ⊤
@@ -198,7 +198,7 @@ first_to b bs f =
           ]
     ]
 
--- a byte that begins a character
+-- A byte that begins a character.
 
 one_more_long : (left : ℕ) (bs : List ℕ) → 0 < left → length bs ≡ left - 1 → suc (length bs) ≡ left
 one_more_long left bs some long = omega (arith, some, long)
@@ -236,7 +236,7 @@ never_lead u b closed out text is =
     let short = one_less_long u.left text is.1 in
     out (first.0, omega (arith, long, short))
 
--- a text byte by byte
+-- A text, byte by byte.
 
 some_end : (inside low high left : ℕ) → inside ≤ left → low ≤ high → (text : List ℕ) × EndsCharacter inside low high text × (length text ≡ left)
 some_end zero low high left room bounds = let zeros = zeros_are left in (replicate left 0, zeros.0, zeros.1)
@@ -250,7 +250,7 @@ left_goes u can =
     let r = some_end u.inside u.low u.high u.left can.room can.bounds in
     (r.0, record { thing = r.0; is = (r.1, r.2); after = []; split = sym (append-nil r.0) })
 
--- what stands in front isn't empty
+-- The text that is left isn't empty.
 left_first : (u : Unread) (b : ℕ) (bs text after : List ℕ) → 0 < u.left → IsTextLeft u text → b ∷ bs ≡ text ++ after → (more : List ℕ) × IsTextLeft u (b ∷ more) × (bs ≡ more ++ after)
 left_first u b bs [] after some is split = absurd (let e : 0 ≡ u.left = is.1 in omega (arith, e, some))
 left_first u b bs (c ∷ text) after some is split =

@@ -1,4 +1,4 @@
--- Where bytes stop being a right spelling.
+-- The place of the first fault in bytes that don't encode a guard or cells.
 use Rattle.std.specs.Prelude.{◌≡◌, ℕ, ◌<◌, ◌≤◌, true, List, ◌++◌, length, take}
 use Rattle.std.specs.Int.{w128, to_be_bytes}
 use Rattle.std.specs.List.{AllByRecursion}
@@ -7,11 +7,11 @@ use Rattle.jac_value.specs.declared.value.Kind.{Kind}
 use Rattle.jac_rows.specs.declared.row.Row.{Row}
 use Rattle.jac_row_codec.specs.Spelling.{SpellsGuard, SpellsCells, IsGuard, IsCell, IsNarrow, AreCells, guard_bytes, cells_bytes}
 
--- the bytes can go on to a right spelling
+-- The bytes can go on to a right spelling.
 abbrev pub GoesOn : (List ℕ → Type 0) → List ℕ → Type 0
 GoesOn Spells front = (more : List ℕ) × Spells (front ++ more)
 
--- the bytes are no right spelling, and the longest front that can go on to one has the length `at`
+-- The bytes are no right spelling. The longest beginning that can go on to one has the length `at`.
 pub record IsFault (Spells : List ℕ → Type 0) (bytes : List ℕ) (at : ℕ) : Type 0 where
   pub wrong : ¬ (Spells bytes)
   pub within : at ≤ length bytes
@@ -24,13 +24,13 @@ IsGuardFault = IsFault SpellsGuard
 abbrev pub IsBodyFault : List Kind → List ℕ → ℕ → Type 0
 IsBodyFault kinds = IsFault (SpellsCells kinds)
 
--- a row that can be spelled, whatever the kinds of its cells
+-- A row that can be spelled, whatever the kinds of its cells.
 pub record CanBeSpelled (row : Row) : Type 0 where
   pub guard : IsGuard row.guard
   pub cells : AllByRecursion IsCell row.cells
   pub narrow : AllByRecursion IsNarrow row.cells
 
--- the row that the bytes spell
+-- The row that the bytes spell.
 pub record IsRowOf (id : ℕ) (kinds : List Kind) (jvars body : List ℕ) (row : Row) : Type 0 where
   pub same_id : row.id ≡ id
   pub guard : IsGuard row.guard
@@ -38,12 +38,12 @@ pub record IsRowOf (id : ℕ) (kinds : List Kind) (jvars body : List ℕ) (row :
   pub cells : AreCells kinds row.cells
   pub body_spelled : body ≡ cells_bytes row.cells
 
--- a fault of the cells is told where the guard is right
+-- A fault of the cells. It is reported only if the guard is right.
 pub record IsFaultBehindGuard (kinds : List Kind) (jvars body : List ℕ) (at : ℕ) : Type 0 where
   pub guard : SpellsGuard jvars
   pub cells : IsBodyFault kinds body at
 
--- the id of the model whose 16 bytes these are
+-- The id of this model that these 16 bytes spell.
 pub record IsIdOf (bytes : List ℕ) (model id : ℕ) : Type 0 where
   pub of_model : is_id_of id model ≡ true
   pub spelled : bytes ≡ to_be_bytes w128 id

@@ -7,7 +7,7 @@ use crate::stop::Stop;
 use jac_value::{Cells, Kind};
 use std::alloc::Global;
 
-// The cells of these kinds that are all of the bytes.
+// The cells of these kinds. They must take up all of the bytes.
 #[tactic(auto, using(crate::proofs::Rows::cells_start, crate::proofs::Rows::cells_step, crate::proofs::Rows::cells_stop))]
 pub(crate) fn cells(alloc: Global, kinds: &[Kind], body: &[u8]) -> Result<Cells, Stop>
     ensures cells { IfOk result (AreCellsSpelled kinds.now body.now) }

@@ -8,10 +8,10 @@ use crate::text::text_of;
 use jac_value::{Id, Kind, Value};
 use std::alloc::Global;
 
-// The numbers of 64 bits.
+// The greatest number of 64 bits.
 const LONGS: u128 = 0xFFFF_FFFF_FFFF_FFFF;
 
-// The cell of this kind in front, and what follows.
+// The cell of this kind at the beginning, and the bytes after it.
 #[tactic(auto, using(crate::proofs::Cells::tag_stops, crate::proofs::Cells::body_stops, crate::proofs::Cells::cell_read))]
 pub(crate) fn cell(alloc: Global, kind: Kind, bytes: &[u8]) -> Result<(Value, &[u8]), Stop>
     ensures cell { IfOk result (λ r. IsCellOf kind bytes.now r.0 r.1.now) }
@@ -34,7 +34,7 @@ fn tag_of(kind: Kind) -> u128
     }
 }
 
-// What follows the tag.
+// The cell's value after its tag, and the bytes after it.
 fn body(alloc: Global, kind: Kind, bytes: &[u8]) -> Result<(Value, &[u8]), Stop>
     ensures cell { IfOk result (λ r. IsBodyOf kind bytes.now r.0 r.1.now) }
     ensures stops { IfErr result (StopsBy (BodiesOf kind) bytes.now) }
@@ -65,7 +65,7 @@ fn truth(bytes: &[u8]) -> Result<(Value, &[u8]), Stop>
     Ok((Value::Bool(sign), rest))
 }
 
-// A byte of a truth value.
+// The byte of a truth value.
 #[tactic(auto, using(crate::proofs::Cells::sign_stops, crate::proofs::Cells::sign_read))]
 pub(crate) fn sign(bytes: &[u8]) -> Result<(bool, &[u8]), Stop>
     ensures sign { IfOk result (λ r. bytes.now ≡ sign_bytes r.0 ++ r.1.now) }
@@ -88,16 +88,16 @@ fn reference(bytes: &[u8], model: u8) -> Result<(Value, &[u8]), Stop>
     Ok((Value::Ref(Some(Id(id))), rest))
 }
 
-// The greatest byte before a reference: a model from 64 on has no ids.
+// The greatest byte before a reference. No model from 64 on has ids.
 fn most_sign(model: u8) -> u128
     ensures { result ≡ most_sign model }
 {
     if model < 64 { 1 } else { 0 }
 }
 
-// An id of the model. Its first eight bytes are 0 where it is narrow, and then what follows is less
-// than 2^52; else a wide one has any bytes next. Where all that is left of the id, or of its second
-// part, is two bytes, the first of them is 16 or more.
+// An id of the model. If its first eight bytes are 0, it is narrow, and the number after them is
+// less than 2^52. If not, it is wide and may have any bytes next. If the id or its second part fits
+// into two bytes, the first of them is at least 16.
 #[tactic(auto, using(crate::proofs::Ids::top_stops))]
 pub(crate) fn id(bytes: &[u8], model: u8) -> Result<(u128, &[u8]), Stop>
     requires { model < 64 }

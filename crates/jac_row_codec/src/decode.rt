@@ -9,11 +9,12 @@ use jac_value::{Id, Kind};
 use std::alloc::Global;
 use thiserror::Error;
 
-/// Why bytes are no stored row. A place is the length of the longest front that can go on to a
+/// Why bytes are no stored row. A place is the length of the longest beginning that can go on to a
 /// right spelling.
 #[derive(Clone, Copy, Debug, PartialEq, Eq, Error)]
 pub enum RowFault {
-    /// The place in the bytes of the guard. It comes before a fault of the cells.
+    /// The place in the bytes of the guard. A fault of the guard is reported before a fault of the
+    /// cells.
     #[error("no guard at {0}")]
     Guard(u64),
     /// The place in the bytes of the cells.
@@ -23,7 +24,7 @@ pub enum RowFault {
     Memory,
 }
 
-/// The row of this id that the bytes of `encode_row` spell, whose cells have these kinds.
+/// The row of this id and of cells of these kinds. The bytes are those of `encode_row`.
 #[tactic(auto, using(crate::proofs::Places::fault_at, crate::proofs::Places::left_within))]
 pub fn decode_row(
     alloc: Global,

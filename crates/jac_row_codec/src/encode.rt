@@ -12,19 +12,19 @@ use jac_value::{Bytes, Id, Memory, Value};
 use jac_world::Label;
 use std::alloc::Global;
 
-/// The two columns of a row that are not plain numbers.
+/// The two columns of a row that aren't plain numbers.
 #[derive(Drop)]
 pub struct Stored {
-    /// Per label of the guard, rising, its number in 16 bytes, the most significant first, and one
-    /// byte 1 (shown) or 0 (hidden).
+    /// For each label of the guard, in rising order: its number in 16 bytes, the most significant
+    /// first, and a byte 1 (shown) or 0 (hidden).
     pub jvars: Bytes,
-    /// The cells in order, each after a tag: 1 and an integer in 8 bytes, 2 and the length of a
-    /// text in 8 bytes and the text, 3 and a byte of a truth value, 4 and 0 for no reference, or 4
-    /// and 1 and an id in 16 bytes.
+    /// The cells in order, each after a tag. Tag 1: an integer in 8 bytes. Tag 2: the length of a
+    /// text in 8 bytes, and the text. Tag 3: a truth value in a byte. Tag 4: 0 for no reference, or
+    /// 1 and an id in 16 bytes.
     pub body: Bytes,
 }
 
-/// The bytes from which `decode_row` makes the same row.
+/// `decode_row` makes the same row of these bytes.
 pub fn encode_row(alloc: Global, row: &Row) -> Result<Stored, Memory>
     ensures jvars { IfOk result (λ s. s.jvars ≡ guard_bytes row.now.guard) }
     ensures body { IfOk result (λ s. s.body ≡ cells_bytes row.now.cells) }

@@ -8,7 +8,7 @@ use crate::stop::Stop;
 use jac_world::{Guard, Label};
 use std::alloc::Global;
 
-// The guard that is all of the bytes.
+// The guard. It must take up all of the bytes.
 #[tactic(auto, using(crate::proofs::Guards::guard_start, crate::proofs::Guards::guard_stop, crate::proofs::Guards::guard_end, crate::proofs::Guards::guard_rises, crate::proofs::Guards::pair_shorter))]
 pub(crate) fn guard(alloc: Global, jvars: &[u8]) -> Result<Guard, Stop>
     ensures guard { IfOk result (IsSpelledGuard jvars.now) }
@@ -26,7 +26,7 @@ pub(crate) fn guard(alloc: Global, jvars: &[u8]) -> Result<Guard, Stop>
     Ok(Guard::from_pairs(pairs))
 }
 
-// The pair in front, whose label is `low` or more; after the greatest label there is none.
+// The first pair. Its label is `low` or more. After the greatest label there is no pair.
 #[tactic(auto, using(crate::proofs::Guards::greatest_stops))]
 fn pair(low: Option<u128>, bytes: &[u8]) -> Result<(u128, bool, &[u8]), Stop>
     requires { 0 < length bytes.now }

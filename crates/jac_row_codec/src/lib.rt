@@ -1,4 +1,4 @@
-//! The bytes of rows as a database has them.
+//! Encodes rows as bytes, and decodes them. It refuses other bytes at their first fault.
 #![tactic(auto)]
 
 mod body;

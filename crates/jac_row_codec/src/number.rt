@@ -3,7 +3,8 @@ ghost use Rattle.jac_row_codec.specs.Reading.{StopsBy, IsStopOfBytes, Numbers, I
 
 use crate::stop::Stop;
 
-// The number of the range in the next `width` bytes, the most significant first, and what follows.
+// The number in the next `width` bytes, the most significant first, and the bytes after it. The
+// number is from `low` to `high`.
 pub(crate) fn number(bytes: &[u8], width: u32, low: u128, high: u128) -> Result<(u128, &[u8]), Stop>
     requires ordered { low ≤ high }
     requires wide { high < 256 ^ width }
@@ -30,7 +31,7 @@ pub(crate) fn number(bytes: &[u8], width: u32, low: u128, high: u128) -> Result<
     Ok((value, rest))
 }
 
-// Whether a number of the range begins so and has `left` bytes more.
+// Whether a number from `low` to `high` begins with `value` and has `left` more bytes.
 fn leads_between(value: u128, left: u32, low: u128, high: u128) -> bool
     requires { left < 16 }
     ensures { result ≡ (nat_le (low / 256 ^ left) value && nat_le value (high / 256 ^ left)) }

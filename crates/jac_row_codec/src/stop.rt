@@ -3,7 +3,7 @@ use std::alloc::AllocFailed;
 /// Why a reader stopped.
 #[derive(Clone, Copy)]
 pub(crate) enum Stop {
-    /// So many bytes are left after the longest front that goes on to a right spelling.
+    /// How many bytes are left after the longest beginning that can go on to a right spelling.
     Left(usize),
     Memory,
 }

@@ -6,19 +6,19 @@ use crate::stop::Stop;
 use jac_value::{Txt, TxtFault};
 use std::alloc::Global;
 
-/// What is unread of a text.
+/// What is still unread of a text.
 #[derive(Clone, Copy)]
 pub(crate) struct Unread {
-    /// All its bytes.
+    /// How many bytes are unread.
     left: u64,
-    /// Those of a character that has begun.
+    /// How many of them belong to a character that has begun.
     inside: u64,
-    /// The bounds of the first of these.
+    /// The bounds of the next byte, if a character has begun.
     low: u8,
     high: u8,
 }
 
-// A text of so many bytes, and what follows.
+// A text of so many bytes, and the bytes after it.
 pub(crate) fn text_of(alloc: Global, long: u64, bytes: &[u8]) -> Result<(Txt, &[u8]), Stop>
     ensures text { IfOk result (λ r. IsTextIn long bytes.now r.0 r.1.now) }
     ensures stops { IfErr result (StopsBy (TextsOf long) bytes.now) }
@@ -31,7 +31,7 @@ pub(crate) fn text_of(alloc: Global, long: u64, bytes: &[u8]) -> Result<(Txt, &[
     }
 }
 
-// What follows a text of so many bytes.
+// The bytes after a text of so many bytes.
 fn behind_text(long: u64, bytes: &[u8]) -> Result<&[u8], Stop>
     ensures text { IfOk result (λ r. IsTextBefore long bytes.now r.now) }
     ensures stops { IfErr result (StopsBy (TextsOf long) bytes.now) }
@@ -56,7 +56,7 @@ fn behind_text(long: u64, bytes: &[u8]) -> Result<&[u8], Stop>
     Ok(rest)
 }
 
-// What is unread after the byte, if a text can go on with it.
+// What is unread after the byte. None if the text can't go on with it.
 fn unread_behind(unread: Unread, byte: u8) -> Option<Unread>
     requires some { 0 < unread.left }
     requires can_end { CanEnd unread }
@@ -70,7 +70,7 @@ fn unread_behind(unread: Unread, byte: u8) -> Option<Unread>
     }
 }
 
-// After a byte inside of a character.
+// The same, inside a character.
 fn unread_behind_later(unread: Unread, byte: u8) -> Option<Unread>
     requires inside { 0 < unread.inside }
     requires can_end { CanEnd unread }
@@ -88,7 +88,7 @@ fn unread_behind_later(unread: Unread, byte: u8) -> Option<Unread>
     })
 }
 
-// After a byte that begins a character.
+// The same, if the byte begins a character.
 fn unread_behind_lead(unread: Unread, byte: u8) -> Option<Unread>
     requires some { 0 < unread.left }
     requires closed { unread.inside ≡ 0 }
