@@ -21,7 +21,7 @@ use Rattle.jac_rows.proofs.Pushed.{rows_at-append}
 use Rattle.jac_row_merge.specs.Merged.{IsJoined, same_pair, same_pairs, differ_once, same_cells, joinable, JoinsTo, Shows, AreMerged, AreOfRecord, pair_before, guard_before, row_before, AreInOrder, place_among}
 use Rattle.jac_row_merge.proofs.Joining.{pair_same}
 
--- rising labels without one
+-- Rising labels without one of them.
 above_next : (k : ℕ) (p : ℕ × Bool) (ps : List (ℕ × Bool)) → k < p.0 → StartsAboveBy (λ (q : ℕ × Bool). q.0) p.0 ps → StartsAboveBy (λ (q : ℕ × Bool). q.0) k ps
 above_next k p [] less above = tt
 above_next k p (q ∷ ps) less above = omega (arith, less, above)
@@ -38,7 +38,7 @@ rising-remove [] (suc i) up = tt
 rising-remove (p ∷ ps) zero up = up.1
 rising-remove (p ∷ ps) (suc i) up = (above-remove p.0 ps i up.0 up.1, rising-remove ps i up.1)
 
--- what two rows show together, one shows
+-- One row shows what two rows show together.
 pub cells_same : (xs ys : List Value) → same_cells xs ys ≡ true → xs ≡ ys
 cells_same [] [] e = refl
 cells_same [] (y ∷ ys) e = cc
@@ -66,7 +66,7 @@ joins r s g e joined w =
     rw (joined.exact w, parts.0, parts.1.0)
     (shown_once (holds w r.guard) (holds w s.guard) (record { id = s.id; cells = s.cells }) (joined.apart w))
 
--- lists of which one row at most is shown
+-- Lists with at most one row that is shown.
 more_than_one : (x y : PlainRow) (xs ys : List PlainRow) → length ((x ∷ xs) ++ (y ∷ ys)) ≤ 1 → (x ∷ xs) ++ (y ∷ ys) ≡ []
 more_than_one x y xs ys h = let n : length (xs ++ (y ∷ ys)) ≡ length xs + length (y ∷ ys) = length-append xs (y ∷ ys) in absurd (omega (arith, h, n))
 
@@ -86,7 +86,7 @@ fewer a b h = let n : length (a ++ b) ≡ length a + length b = length-append a 
 fewer_front : (a b : List PlainRow) → length (a ++ b) ≤ 1 → length a ≤ 1
 fewer_front a b h = let n : length (a ++ b) ≡ length a + length b = length-append a b in omega (arith, h, n)
 
--- the first row, and those after it
+-- The first row, and the others.
 first_and_rest : (w : ℕ → Bool) (y : Row) (m : List Row) → rows_at w (y ∷ m) ≡ rows_at w (y ∷ []) ++ rows_at w m
 first_and_rest w y m = rows_at-append w (y ∷ []) m
 
@@ -133,7 +133,7 @@ shows_next all m n r rest so_far step w one =
     fewer_front (rows_at w (m ++ r ∷ [])) (rows_at w rest) (subst (λ l. length l ≤ 1) (sym same ∙ parts) one) in
     rows_at-append w n rest ∙ ap (λ l. l ++ rows_at w rest) (step w few) ∙ sym parts ∙ same
 
--- what holds of each row
+-- A property of each row.
 module _ (P : Row → Type 0) where
   pub all-append : (xs ys : List Row) → AllByRecursion P xs → AllByRecursion P ys → AllByRecursion P (xs ++ ys)
   all-append [] ys a b = b
@@ -174,7 +174,7 @@ own_next id m n r rest step own =
     let behind : AllByRecursion P (r ∷ rest) = all-behind P m (r ∷ rest) own in
     all-append P n rest (step (all-append P m (r ∷ []) (all-front P m (r ∷ rest) own) (behind.0, tt))) behind.1
 
--- no two can be joined
+-- No two rows can be joined.
 value_turned : (x y : Value) → equality.ghosts.eq x y ≡ equality.ghosts.eq y x
 value_turned x y = matches_eq-law x y ∙ ap is_eq (total-law.antisymm x y) ∙ is_turned (order.ghosts.cmp y x) ∙ sym (matches_eq-law y x)
   where
@@ -227,7 +227,7 @@ merged_inserted [] (suc i) r less none merged = absurd (omega (arith, less))
 merged_inserted (x ∷ m) (suc i) r less none merged =
     (all-insert (λ (s : Row). joinable x s ≡ false) m i r (omega (arith, less)) merged.0 none.0, merged_inserted m i r (omega (arith, less)) none.1 merged.1)
 
--- what no place was found for passes nowhere
+-- If no place was found for a test, no item passes it.
 cond_none : (b : Bool) (i : ℕ) → cond b (Some i) None ≡ None → b ≡ false
 cond_none true i e = cc
 cond_none false i e = refl
@@ -246,7 +246,7 @@ none_passes p xs e =
     let past : length xs ≤ position_or_len p xs = grind (arith, nat_tests) in
     none_within p xs past
 
--- the order of guards
+-- The order of guards.
 abbrev bit : Bool → ℕ
 bit true = 1
 bit false = 0
@@ -339,7 +339,7 @@ unless : (b : Bool) → (b ≡ true → true ≡ false) → b ≡ false
 unless true h = h refl
 unless false h = refl
 
--- what comes before no row that a row comes before doesn't come before that row
+-- If `r` comes before `s`, and `t` doesn't come before `s`, then `t` doesn't come before `r`.
 not_before : (r s t : Row) → row_before r s ≡ true → row_before t s ≡ false → row_before t r ≡ false
 not_before r s t h n = unless (row_before t r) (λ e. sym (before_trans t.guard r.guard s.guard e h) ∙ n)
 

@@ -1,4 +1,5 @@
--- Rows that are joined: guards that differ in one label's sign alone, and the order of guards.
+-- Rows that are merged because their guards differ only in one label's sign, and the order of
+-- guards.
 use Rattle.std.specs.Prelude.{◌≡◌, ℕ, ◌+◌, ◌≤◌, ◌==◌, nat_lt, Bool, true, false, not, ◌&&◌, ◌||◌, if◌then◌else◌, List, [], ◌∷◌, ◌++◌, length, ⊤}
 use Rattle.std.specs.Cmp.Lexicographic.{pointwise}
 use Rattle.std.specs.List.{AllByRecursion}
@@ -9,7 +10,7 @@ use Rattle.jac_world.specs.World.{holds, IsApart}
 use Rattle.jac_rows.specs.declared.row.Row.{Row}
 use Rattle.jac_rows.specs.Project.{rows_at}
 
--- a guard holds where one of two does, which never hold together
+-- The two guards never hold together. The joined guard holds if one of them does.
 pub record IsJoined (one other joined : List (ℕ × Bool)) : Type 0 where
   pub apart : IsApart one other
   pub exact : (w : ℕ → Bool) → holds w joined ≡ (holds w one || holds w other)
@@ -26,7 +27,7 @@ same_pairs [] (q ∷ qs) = false
 same_pairs (p ∷ ps) [] = false
 same_pairs (p ∷ ps) (q ∷ qs) = same_pair p q && same_pairs ps qs
 
--- the guards are the same but for one label's sign
+-- Whether the guards are the same except for the sign of one label.
 abbrev pub differ_once : List (ℕ × Bool) → List (ℕ × Bool) → Bool
 differ_once [] hs = false
 differ_once (p ∷ ps) [] = false
@@ -36,19 +37,20 @@ differ_once (p ∷ ps) (q ∷ qs) = (turned_pair p q && same_pairs ps qs) ||
 abbrev pub same_cells : List Value → List Value → Bool
 same_cells xs ys = pointwise equality.ghosts.eq xs ys
 
--- alternatives of one record with equal cells, whose guards differ in one label's sign alone
+-- Whether the rows are alternatives of one record with equal cells, and their guards are the same
+-- except for the sign of one label.
 abbrev pub joinable : Row → Row → Bool
 joinable r s = (r.id == s.id) && same_cells r.cells s.cells && differ_once r.guard s.guard
 
--- what one row shows, the two show together
+-- The joined row shows what the two rows show together.
 abbrev pub JoinsTo : Row → Row → Row → Type 0
 JoinsTo r s j = (w : ℕ → Bool) → rows_at w (j ∷ []) ≡ rows_at w (r ∷ []) ++ rows_at w (s ∷ [])
 
--- where no two of the old rows hold together, the new ones show what they show
+-- Under an assignment that shows at most one of the old rows, the new ones show the same.
 abbrev pub Shows : List Row → List Row → Type 0
 Shows old new = (w : ℕ → Bool) → length (rows_at w old) ≤ 1 → rows_at w new ≡ rows_at w old
 
--- no two of the rows can be joined
+-- No two of the rows can be joined.
 abbrev pub AreMerged : List Row → Type 0
 AreMerged [] = ⊤
 AreMerged (r ∷ rs) = AllByRecursion (λ (s : Row). joinable r s ≡ false) rs × AreMerged rs
@@ -59,7 +61,7 @@ AreOfRecord id rows = AllByRecursion (λ (r : Row). r.id ≡ id) rows
 abbrev pub pair_before : ℕ × Bool → ℕ × Bool → Bool
 pair_before p q = if p.0 == q.0 then q.1 else nat_lt p.0 q.0
 
--- compared as lists: a lesser label comes first, and hidden before shown
+-- The order of guards as lists: a lesser label comes first, and hidden comes before shown.
 abbrev pub guard_before : List (ℕ × Bool) → List (ℕ × Bool) → Bool
 guard_before [] [] = false
 guard_before [] (q ∷ qs) = true
@@ -69,12 +71,12 @@ guard_before (p ∷ ps) (q ∷ qs) = if same_pair p q then guard_before ps qs el
 abbrev pub row_before : Row → Row → Bool
 row_before r s = guard_before r.guard s.guard
 
--- no later row comes before an earlier one
+-- No later row comes before an earlier one.
 abbrev pub AreInOrder : List Row → Type 0
 AreInOrder [] = ⊤
 AreInOrder (r ∷ rs) = AllByRecursion (λ (s : Row). row_before s r ≡ false) rs × AreInOrder rs
 
--- how many rows stand before the first that the row comes before
+-- The number of rows before the first one that the row comes before.
 abbrev pub place_among : Row → List Row → ℕ
 place_among r [] = 0
 place_among r (s ∷ rs) = if row_before r s then 0 else place_among r rs + 1

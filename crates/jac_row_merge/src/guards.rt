@@ -1,4 +1,4 @@
-//! Guards that differ in one label's sign alone, and the order of guards.
+//! Guards that differ only in the sign of one label, and the order of guards.
 ghost use Rattle.std.specs.Prelude.{◌≡◌, ◌<◌, ◌+◌, ◌++◌, ℕ, Bool, true, false, length, take, drop, IfSome, IfOk};
 ghost use Rattle.std.specs.Option.{is_some};
 ghost use Rattle.std.specs.List.{list_all};
@@ -8,8 +8,8 @@ use jac_value::Memory;
 use jac_world::{Guard, Label};
 use std::alloc::Global;
 
-/// The guard that holds where one of the two does, if they differ in one label's sign alone. It
-/// names what the first one does, but that label.
+/// The guard that holds if one of the two does, or `None` unless they differ only in the sign of
+/// one label. It is the first guard without this label.
 pub fn join_guards(alloc: Global, one: &Guard, other: &Guard) -> Result<Option<Guard>, Memory>
     ensures joined { IfOk result (λ o. IfSome o (λ g. IsJoined one.now other.now g)) }
     ensures fewer { IfOk result (λ o. IfSome o (λ g. (p : (ℕ × Bool) → Bool)
@@ -38,14 +38,14 @@ fn without(alloc: Global, one: &Guard, other: &Guard, place: usize) -> Result<Gu
     Ok(Guard::from_pairs(pairs))
 }
 
-/// Whether the guards differ in one label's sign alone.
+/// Whether the guards differ only in the sign of one label.
 pub fn differ_once(one: &[(Label, bool)], other: &[(Label, bool)]) -> bool
     ensures { result ≡ differ_once one.now other.now }
 {
     turned_place(one, other).is_some()
 }
 
-// The place of the one label whose sign is another.
+// The place of the one label with a different sign.
 fn turned_place(one: &[(Label, bool)], other: &[(Label, bool)]) -> Option<usize>
     ensures within { IfSome result (λ place. place < length one.now) }
     ensures joined { IfSome result (λ place. IsJoined one.now other.now (take place one.now
@@ -69,7 +69,7 @@ fn turned_place(one: &[(Label, bool)], other: &[(Label, bool)]) -> Option<usize>
     None
 }
 
-// Whether the label is the same, and its sign another.
+// Whether the labels are the same, and the signs differ.
 fn is_turned(one: &(Label, bool), other: &(Label, bool)) -> bool
     ensures { result ≡ turned_pair one.now other.now }
 {
@@ -97,8 +97,8 @@ fn are_same(one: &[(Label, bool)], other: &[(Label, bool)]) -> bool
     left.is_empty() && right.is_empty()
 }
 
-/// Whether the first comes before the second: compared as lists, a lesser label first, and hidden
-/// before shown.
+/// Whether the first guard comes before the second. They are compared as lists: a lesser label
+/// comes first, and hidden comes before shown.
 pub fn comes_before(one: &[(Label, bool)], other: &[(Label, bool)]) -> bool
     ensures { result ≡ guard_before one.now other.now }
 {

@@ -1,5 +1,5 @@
-//! Alternatives of a record, joined where their cells are equal and their guards differ in one
-//! label's sign alone.
+//! Merges two rows of a record if their cells are equal and their guards differ only in one label's
+//! sign.
 #![tactic(auto)]
 
 mod guards;

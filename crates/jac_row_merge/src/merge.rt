@@ -1,4 +1,4 @@
-//! Rows joined as long as two of them can be, and put in the order of their guards.
+//! Joins rows as long as two of them can be joined, and puts them in the order of their guards.
 ghost use Rattle.std.specs.Prelude.{◌≡◌, ◌++◌, ◌∷◌, [], ℕ, true, IfOk, OnOk, position};
 ghost use Rattle.std.specs.List.{insert};
 ghost use Rattle.jac_row_merge.specs.Merged.{same_cells, joinable, JoinsTo, Shows, AreMerged, AreOfRecord, AreInOrder, place_among};
@@ -8,8 +8,9 @@ use jac_rows::{Row, Rows};
 use jac_value::{Memory, Value};
 use std::alloc::Global;
 
-/// The rows with alternatives joined that have equal cells and guards that differ in one label's
-/// sign alone, by their guards. Where no two of them hold together, they show the same.
+/// Joins alternatives that have equal cells and have guards that differ only in the sign of one
+/// label. The result is in the order of the guards. Under an assignment that shows at most one of
+/// the rows, it shows the same.
 pub fn merge_rows(alloc: Global, rows: Rows) -> Result<Rows, Memory>
     ensures shown { IfOk result (λ merged. Shows rows merged) }
     ensures own { IfOk result (λ merged. (id : ℕ) → AreOfRecord id rows → AreOfRecord id merged) }
@@ -23,7 +24,7 @@ pub fn merge_rows(alloc: Global, rows: Rows) -> Result<Rows, Memory>
     Ok(Rows::from_vec(merged))
 }
 
-// Puts the row among these, joined with as many of them as it can be.
+// Adds the row, after joining it with others as long as that is possible.
 fn put(alloc: Global, merged: &mut Vec<Row>, row: Row) -> Result<(), Memory>
     requires merged { AreMerged merged.old.items }
     requires order { AreInOrder merged.old.items }
@@ -43,7 +44,7 @@ fn put(alloc: Global, merged: &mut Vec<Row>, row: Row) -> Result<(), Memory>
     Ok(())
 }
 
-// The place of a row that the row can be joined with.
+// The place of a row that can be joined with this one.
 fn partner(merged: &[Row], row: &Row) -> Option<usize>
     ensures { result ≡ position (λ one. joinable one row.now) merged.now }
 {
@@ -64,7 +65,7 @@ fn have_same_cells(one: &[Value], other: &[Value]) -> bool
     one == other
 }
 
-// The row that stands where one of two does.
+// The row that holds if one of the two does.
 fn join(alloc: Global, one: Row, other: Row) -> Result<Row, Memory>
     requires { joinable one other ≡ true }
     ensures shown { IfOk result (λ row. JoinsTo one other row) }
@@ -80,7 +81,7 @@ fn join(alloc: Global, one: Row, other: Row) -> Result<Row, Memory>
     }
 }
 
-// How many rows stand before the row's place.
+// The number of rows before the row's place.
 fn place_for(merged: &[Row], row: &Row) -> usize
     ensures { result ≡ place_among row.now merged.now }
 {

@@ -2,7 +2,7 @@ use Rattle.std.proofs.Common.{◌≡◌, ℕ, Bool, List, ◌++◌, length}
 use Rattle.jac_row_merge.specs.Merged.{differ_once}
 use Rattle.jac_row_merge.proofs.guards.turned_place.Given as goal
 
--- what was passed over is the same in both
+-- The pairs so far are the same in both.
 abbrev pub invariant-pairs : goal.invariant-pairs
 invariant-pairs l = record {
   parts : (front : List (ℕ × Bool)) × (length front ≡ l.place) × (front ++ l.left ≡ l.one) × (front ++ l.right ≡ l.other);
