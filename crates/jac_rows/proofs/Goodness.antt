@@ -32,7 +32,7 @@ starts_if : (w : ℕ → Bool) (x y : Row) (ys : List Row) (b : Bool) → holds 
 starts_if w x y ys true e h i r = strictly x.id y.id i.0 (λ s. not_same (holds w x.guard) (holds w y.guard) h e (i.1 s w))
 starts_if w x y ys false e h i r = r
 
--- rows of one id that hold together are one row
+-- If the guard of a row holds, no later row of the same id is shown.
 starts : (w : ℕ → Bool) (x : Row) (xs : List Row) → holds w x.guard ≡ true → IsBefore id_of_row guard_of_row x xs → StartsAboveBy id_of_plain x.id (rows_at w xs)
 starts w x [] h i = tt
 starts w x (y ∷ ys) h i = starts_if w x y ys (holds w y.guard) refl h i (starts w x ys h i.2)

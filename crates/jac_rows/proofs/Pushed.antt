@@ -1,4 +1,4 @@
--- What rows that were added show, for the proofs of crates that write rows.
+-- The projection of appended rows, for the proofs of crates that write rows.
 use Rattle.std.specs.Prelude.{◌≡◌, ℕ, ◌+◌, Bool, true, false, if◌then◌else◌, List, [], ◌∷◌, ◌++◌}
 use Rattle.std.proofs.Common.{refl, ap, ◌∙◌, arith}
 use Rattle.jac_value.specs.declared.value.Value.{Value}
@@ -15,12 +15,12 @@ pub rows_at-append : (w : ℕ → Bool) (rs us : List Row) → rows_at w (rs ++ 
 rows_at-append w [] us = refl
 rows_at-append w (r ∷ rs) us = append_if (holds w r.guard) (record { id = r.id; cells = r.cells }) (rows_at w rs) (rows_at w us) (rows_at w (rs ++ us)) (rows_at-append w rs us)
 
--- one row was pushed, whose guard holds by b
+-- The projection after one row is appended, if its guard has the truth value `b`.
 pub rows_at-pushed : (w : ℕ → Bool) (rs us : List Row) (r : Row) (b : Bool) (cells : List Value) → us ≡ rs ++ r ∷ [] → holds w r.guard ≡ b → r.cells ≡ cells →
     rows_at w us ≡ rows_at w rs ++ if◌then◌else◌ {A = List PlainRow} b (record { id = r.id; cells = cells } ∷ []) []
 rows_at-pushed w rs us r b cells e h c = ap (rows_at w) e ∙ (rows_at-append w rs (r ∷ []) ∙ rw (h, c) refl)
 
--- a row once for each of the guards that holds
+-- The row, once for each guard that holds.
 abbrev pub each_holding : (ℕ → Bool) → List (List (ℕ × Bool)) → PlainRow → List PlainRow
 each_holding w [] x = []
 each_holding w (g ∷ gs) x = (if holds w g then x ∷ [] else []) ++ each_holding w gs x
@@ -41,7 +41,8 @@ one_held : (w : ℕ → Bool) (gs : List (List (ℕ × Bool))) (x : PlainRow) �
 one_held w [] x e = absurd (omega arith)
 one_held w (g ∷ gs) x e = one_held_if (holds w g) (holding w gs) x (each_holding w gs x) e (none_held w gs x) (one_held w gs x)
 
--- one of the guards holds where b does
+-- If exactly one of the guards holds when `b` is true, and none otherwise, the row is there once or
+-- not at all.
 pub each_holding-is : (w : ℕ → Bool) (gs : List (List (ℕ × Bool))) (x : PlainRow) (b : Bool) → holding w gs ≡ (if b then 1 else 0) → each_holding w gs x ≡ if◌then◌else◌ {A = List PlainRow} b (x ∷ []) []
 each_holding-is w gs x true e = one_held w gs x e
 each_holding-is w gs x false e = none_held w gs x e

@@ -6,7 +6,7 @@ use Rattle.jac_rows.specs.declared.plain.PlainRow.{PlainRow}
 use Rattle.jac_rows.specs.declared.state.State.{State}
 use Rattle.jac_rows.specs.declared.plain.PlainState.{PlainState}
 
--- the rows whose guard holds, in their order and without guards
+-- The rows whose guard holds, in their order and without guards.
 abbrev pub rows_at : (ℕ → Bool) → List Row → List PlainRow
 rows_at w [] = []
 rows_at w (r ∷ rs) = if holds w r.guard then record { id = r.id; cells = r.cells } ∷ rows_at w rs

@@ -5,7 +5,7 @@ use jac_value::{Cells, Id, List, Memory, TryClone};
 use std::alloc::Global;
 use std::marker::Model;
 
-/// A record as one viewer sees it.
+/// A record in a projection, as one viewer sees it.
 #[derive(Debug, Drop)]
 pub struct PlainRow {
     pub id: Id,
@@ -28,7 +28,7 @@ impl TryClone for PlainRow {
     }
 }
 
-/// The records of a model as one viewer sees them.
+/// The records of a model in a projection, as one viewer sees them.
 pub type PlainTable = List<PlainRow>;
 
 /// One table for each model, in the order of the models. A model beyond them has no records.
@@ -96,7 +96,7 @@ impl PlainTables {
     }
 }
 
-/// What one viewer sees of a state.
+/// A projection: what one viewer sees of a state.
 #[derive(Debug, Drop)]
 pub struct PlainState {
     pub tables: PlainTables,

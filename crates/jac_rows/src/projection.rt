@@ -7,8 +7,8 @@ use jac_value::Memory;
 use jac_world::Assignment;
 use std::alloc::Global;
 
-/// What the assignment shows of the state: the rows whose guard holds, in their order, and the
-/// number.
+/// The projection of the state under the assignment: the rows whose guards hold, in their order,
+/// and the number.
 pub fn project(alloc: Global, state: &State, assignment: &Assignment) -> Result<PlainState, Memory>
     ensures { IfOk result (λ p. p ≡ project_at (shown_by assignment.now) state.now) }
 {

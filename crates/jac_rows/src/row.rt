@@ -4,7 +4,7 @@ use jac_value::{Cells, Id, List, Memory, TryClone};
 use jac_world::Guard;
 use std::alloc::Global;
 
-/// One alternative of a record: the cells that it has where the guard holds.
+/// One alternative of a record: the cells that it has if the guard holds.
 #[derive(Debug, Drop)]
 pub struct Row {
     pub id: Id,

@@ -6,14 +6,14 @@ use std::alloc::Global;
 /// The kinds of the fields of each model, in the order of the models.
 pub type KindLists = List<Kinds>;
 
-/// One truth for each model, in the order of the models.
+/// One truth value for each model, in the order of the models.
 pub type Flags = List<bool>;
 
-/// What a store knows of its models: one entry of each list for each model.
+/// What a store knows of its models. Each list has one entry for each model.
 #[derive(Debug, Drop)]
 pub struct Shape {
     pub kinds: KindLists,
-    /// Whether the model's records stand under records of another one.
+    /// Whether the model's records belong to records of another model.
     pub nested: Flags,
 }
 

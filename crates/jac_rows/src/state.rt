@@ -4,8 +4,7 @@ use crate::Tables;
 use jac_value::Memory;
 use std::alloc::Global;
 
-/// What is stored, for all viewers at once: the tables, and the number of the next accepted
-/// request.
+/// What is stored for all viewers: the tables, and the number of the next accepted request.
 #[derive(Debug, Drop)]
 pub struct State {
     pub tables: Tables,

@@ -8,7 +8,8 @@ use jac_value::{Memory, try_clone_all};
 use std::alloc::Global;
 use std::marker::Model;
 
-/// The rows of a model by rising id. Alternatives of one id never hold together.
+/// The rows of a model in rising order of their ids. The guards of two rows of one id never hold
+/// together.
 #[derive(Debug, Drop)]
 pub struct Table {
     rows: Vec<Row>,
