@@ -1,4 +1,4 @@
--- What the bytes of an audit say of the log that they tell of.
+-- What the bytes of an audit say of its log.
 use Rattle.std.proofs.Common.{◌≡◌, ◌∙◌, ap, sym, refl, ◌⊎◌, inl, inr, arith, ℕ, zero, suc, ◌+◌, ◌<◌, ◌^◌, ◌/◌, ◌%◌, ◌==◌, ◌&&◌, ◌||◌, nat_lt, Bool, true, false, if◌then◌else◌, Option, Some, None, List, [], ◌∷◌, ◌++◌, length, append_assoc, append-nil, codes, decimal}
 use Rattle.std.proofs.lemmas.Bool.{cases_eq, and_from}
 use Rattle.std.proofs.lemmas.Bool.Decides.{nat_tests}
@@ -18,7 +18,7 @@ use Rattle.jac_run_laws.specs.Replayed.{BeginsLine, HasStatusWord, TellsNoFailur
 
 -- ---- the bytes of a line
 
--- a byte of a number, of a viewer or of labels, which is no space and no line feed
+-- A byte of a number, a viewer or labels. It is no space and no line feed.
 abbrev pub is_inside : ℕ → Bool
 is_inside c = nat_lt 43 c
 
@@ -79,7 +79,7 @@ shown_inside None = refl
 shown_inside (Some []) = refl
 shown_inside (Some (k ∷ ks)) = all_append is_inside (decimal k) (more_labels ks) (decimal_inside k) (more_inside ks)
 
--- ---- where bytes stop
+-- ---- the first byte that fails a test
 
 no_stop : (test : ℕ → Bool) (stop c : ℕ) → test stop ≡ false → test c ≡ true → stop ≡ c → ⊥
 no_stop test stop c off on same = let wrong : false ≡ true = sym off ∙ ap test same ∙ on in cc
@@ -90,7 +90,7 @@ head_same c d xs ys same = cc
 tail_same : (c d : ℕ) (xs ys : List ℕ) → c ∷ xs ≡ d ∷ ys → xs ≡ ys
 tail_same c d xs ys same = cc
 
--- the bytes before the first one that fails the test, and those from it on
+-- The bytes before the first one that fails the test, and the bytes from it on.
 cut_at : (test : ℕ → Bool) (stop other : ℕ) (a b x y : List ℕ) → test stop ≡ false → test other ≡ false
     → list_all test a ≡ true → list_all test b ≡ true → a ++ stop ∷ x ≡ b ++ other ∷ y → (a ≡ b) × (stop ∷ x ≡ other ∷ y)
 cut_at test stop other [] [] x y off off' on on' same = (refl, same)
@@ -103,7 +103,7 @@ cut_at test stop other (c ∷ a) (d ∷ b) x y off off' on on' same =
     (tail_same c d (a ++ stop ∷ x) (b ++ other ∷ y) same) in
     (λ i. head_same c d (a ++ stop ∷ x) (b ++ other ∷ y) same i ∷ rest.0 i, rest.1)
 
--- the bytes before the first one that fails the test, and those after it
+-- The bytes before the first one that fails the test, and the bytes after it.
 pub cut : (test : ℕ → Bool) (stop : ℕ) (a b x y : List ℕ) → test stop ≡ false → list_all test a ≡ true → list_all test b ≡ true
     → a ++ stop ∷ x ≡ b ++ stop ∷ y → (a ≡ b) × (x ≡ y)
 cut test stop a b x y off on on' same =
@@ -121,7 +121,7 @@ pub label_injective : (m n : ℕ) → m < 2 ^ 128 → n < 2 ^ 128 → decimal m 
 label_injective m n small small' same =
     sym (decimal_is_IsNumeral_wide m (label_fits m small)).1 ∙ ap (digits_value 10) same ∙ (decimal_is_IsNumeral_wide n (label_fits n small')).1
 
--- what follows the first of these bytes, where one comma more is put after them
+-- The text of these labels without its first comma, and with a comma at its end.
 abbrev pub behind_comma : List ℕ → List ℕ
 behind_comma [] = []
 behind_comma (k ∷ ks) = (decimal k ++ more_labels ks) ++ 44 ∷ []
@@ -185,7 +185,7 @@ shown_by_text (Some (k ∷ ks)) (Some (l ∷ ls)) small small' same =
 
 -- ---- a line and the rest
 
--- a line of four words, before the rest
+-- A line of four words, and the rest.
 line_before : (a b c d e more : List ℕ) → (a ++ 32 ∷ (b ++ 32 ∷ (c ++ 32 ∷ (d ++ e)))) ++ more ≡ a ++ 32 ∷ (b ++ 32 ∷ (c ++ 32 ∷ (d ++ (e ++ more))))
 line_before a b c d e more =
     append_assoc a (32 ∷ (b ++ 32 ∷ (c ++ 32 ∷ (d ++ e)))) more
@@ -193,7 +193,7 @@ line_before a b c d e more =
     (append_assoc b (32 ∷ (c ++ 32 ∷ (d ++ e))) more
     ∙ ap (λ (t : List ℕ). b ++ 32 ∷ t) (append_assoc c (32 ∷ (d ++ e)) more ∙ ap (λ (t : List ℕ). c ++ 32 ∷ t) (append_assoc d e more)))
 
--- the words of a line, as they stand in it
+-- The words of a line, as in the line.
 words_joined : (a b c d : List ℕ) → (((a ++ 32 ∷ []) ++ b) ++ 32 ∷ []) ++ c ++ d ≡ a ++ 32 ∷ (b ++ 32 ∷ (c ++ d))
 words_joined a b c d =
     append_assoc (((a ++ 32 ∷ []) ++ b) ++ 32 ∷ []) c d
@@ -213,7 +213,7 @@ line_shape k entry =
     (append_assoc ((((status ++ 32 ∷ []) ++ viewer) ++ 32 ∷ []) ++ labels) consulted (10 ∷ [])
     ∙ words_joined status viewer labels (consulted ++ 10 ∷ []))
 
--- the same line without its end
+-- The same line without its end.
 abbrev pub words_of : ℕ → LogEntry → List ℕ
 words_of k entry =
     decimal k ++ 32 ∷ (decimal entry.answer.status ++ 32 ∷ (viewer_text (viewer_of_subject entry.subject)
@@ -225,7 +225,7 @@ line_end k entry =
     ∙ sym (line_before (decimal k) (decimal entry.answer.status) (viewer_text (viewer_of_subject entry.subject))
     (shown_text entry.answer.shown) (consulted_text entry.answer.consulted) (10 ∷ []))
 
--- what stands after the labels of a line
+-- What follows the labels in a line.
 abbrev pub behind_labels : Option (List ℕ) → List ℕ → List ℕ
 behind_labels consulted more = consulted_text consulted ++ 10 ∷ more
 
@@ -248,13 +248,13 @@ next_line front k entry =
 no_mark : (x y : List ℕ) → 10 ∷ x ≡ 32 ∷ y → ⊥
 no_mark x y same = let wrong : ◌≡◌ {A = ℕ} 10 32 = head_same 10 32 x y same in absurd cc
 
--- after ` of `
+-- The text after ` of `.
 behind_mark : (x y : List ℕ) → 111 ∷ 102 ∷ 32 ∷ x ≡ 111 ∷ 102 ∷ 32 ∷ y → x ≡ y
 behind_mark x y same =
     tail_same 32 32 x y
     (tail_same 102 102 (32 ∷ x) (32 ∷ y) (tail_same 111 111 (102 ∷ 32 ∷ x) (102 ∷ 32 ∷ y) same))
 
--- the same word and what was consulted, and the same lines after
+-- The same word, the same consulted labels, and the same lines after them.
 same_labels : (one two : Option (List ℕ)) (a b more others : List ℕ) → list_all is_inside a ≡ true → list_all is_inside b ≡ true
     → a ++ behind_labels one more ≡ b ++ behind_labels two others → (a ≡ b) × (consulted_text one ≡ consulted_text two) × (more ≡ others)
 same_labels None None a b more others on on' same = let parts = cut is_inside 10 a b more others refl on on' same in (parts.0, refl, parts.1)
@@ -271,7 +271,7 @@ same_labels (Some ks) (Some ls) a b more others on on' same =
     let last = cut is_inside 10 (labels_text ks) (labels_text ls) more others refl (shown_inside (Some ks)) (shown_inside (Some ls)) (behind_mark one two parts.1) in
     (parts.0, ap (λ (l : List ℕ). codes " of " ++ l) last.0, last.1)
 
--- the same words, before the same bytes
+-- Two lines with the same words, and the same bytes after them.
 record IsSameLine (one two : LogEntry) (more others : List ℕ) : Type 0 where
   pub status : decimal one.answer.status ≡ decimal two.answer.status
   pub viewer : viewer_text (viewer_of_subject one.subject) ≡ viewer_text (viewer_of_subject two.subject)
@@ -299,7 +299,7 @@ no_end : (a x : List ℕ) (c : ℕ) → a ++ c ∷ x ≡ [] → ⊥
 no_end [] x c same = cc
 no_end (d ∷ a) x c same = cc
 
--- an audit that has a line isn't empty
+-- An audit with a line isn't empty.
 no_line : (k : ℕ) (entry : LogEntry) (more : List ℕ) → audit_line k entry ++ more ≡ [] → ⊥
 no_line k entry more same =
     no_end (decimal k)
@@ -307,7 +307,7 @@ no_line k entry more same =
     ++ 32 ∷ (shown_text entry.answer.shown ++ behind_labels entry.answer.consulted more)))
     32 (sym (line_split k entry more) ∙ same)
 
--- audits that are the same bytes tell the same labels
+-- Logs whose audits are the same bytes have the same labels.
 pub labels_by_text : (k : ℕ) (log others : List LogEntry) → audited_from k log ≡ audited_from k others → HaveSmallLabels log → HaveSmallLabels others
     → labels_of log ≡ labels_of others
 labels_by_text k [] [] same small small' = refl
@@ -319,7 +319,7 @@ labels_by_text k (one ∷ log) (two ∷ others) same small small' =
     let rest = labels_by_text (k + 1) log others line.rest small.1 small'.1 in
     λ i. first i ∷ rest i
 
--- ---- all that a line tells
+-- ---- the contents of a line
 
 no_viewer : (id : ℕ) → id < 2 ^ 128 → viewer_text None ≡ viewer_text (Some id) → ⊥
 no_viewer id small same = no_number id 45 [] [] small refl (same ∙ sym (append-nil (decimal id)))
@@ -340,7 +340,7 @@ consulted_by_text (Some ks) None small small' same = absurd (no_mark_first ks (s
 consulted_by_text (Some ks) (Some ls) small small' same =
     shown_by_text (Some ks) (Some ls) small small' (append_cancel_left (codes " of ") (labels_text ks) (labels_text ls) same)
 
--- audits that are the same bytes tell the same, line by line
+-- The audit lines of logs whose audits are the same bytes have the same contents, line by line.
 pub entries_by_text : (k : ℕ) (log others : List LogEntry) → HaveSmallNumbers log → HaveSmallNumbers others → audited_from k log ≡ audited_from k others
     → AreAuditedAlike log others
 entries_by_text k [] [] small small' same = tt
@@ -357,7 +357,7 @@ entries_by_text k (one ∷ log) (two ∷ others) small small' same =
       entries_by_text (k + 1) log others small.1 small'.1 line.rest,
     )
 
--- ---- what a line tells
+-- ---- the status of a line
 
 decimal_500 : decimal 500 ≡ codes "500"
 unfolding digits
@@ -367,7 +367,7 @@ decimal_503 : decimal 503 ≡ codes "503"
 unfolding digits
 decimal_503 = refl
 
--- the line of this status has its word
+-- A line with this status has its word.
 status_word : (audit front : List ℕ) (k status : ℕ) (entry : LogEntry) (more digits_of : List ℕ) → BeginsLine front → audit ≡ front ++ (audit_line k entry ++ more)
     → entry.answer.status ≡ status → decimal status ≡ digits_of → HasStatusWord audit (32 ∷ (digits_of ++ 32 ∷ []))
 status_word audit front k status entry more digits_of begins is on text =

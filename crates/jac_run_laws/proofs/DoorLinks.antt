@@ -1,4 +1,4 @@
--- Two serves whose doors gave links with the same input, link by link.
+-- Two serves that got connections with the same input, connection by connection.
 use Rattle.std.proofs.Common.{◌≡◌, ◌∙◌, ap, sym, subst, refl, inl, inr, ◌⊎◌, ℕ, ◌+◌, Bool, true, false, IsTrue, IsErr, Result, Ok, Err, Option, Some, None, List, [], ◌∷◌, ◌++◌, append-nil, length}
 use Rattle.std.specs.List.{concat}
 use Rattle.jac_io.specs.Faults.{Rose}
@@ -36,7 +36,7 @@ like_append start other [] (two ∷ others) more rest h k = absurd h
 like_append start other (one ∷ log) [] more rest h k = absurd h
 like_append start other (one ∷ log) (two ∷ others) more rest h k = (h.0, like_append start other log others more rest h.1 k)
 
--- ---- from logs with moved places to their own
+-- ---- from entries with other places to the entries of the log
 
 like_entry : (start other s u : State) (one two x y : LogEntry) → IsMoved x one → IsMoved y two → x.source ≡ y.source → x.subject ≡ y.subject → IsSameWhereShown s u x y
     → ((w : ℕ → Bool) → LookSame w start other → LookSame w s u) → IsLikeWhereShown start other one two
@@ -68,7 +68,7 @@ like_logs start other s u (one ∷ log) (two ∷ others) (x ∷ xs) (y ∷ ys) m
       like_logs start other s u log others xs ys m.1 n.1 asked.1 both.1 none.1 none'.1 still,
     )
 
--- ---- one link
+-- ---- one connection
 
 module _ {L : Type 0} (line : L → LinkSeen) (lazy : Bool) (app : Application) (sessions : List Session) where
   not_part : (part : Bool) (visit : LinkVisit L) → IsTakenWhole line visit
@@ -91,16 +91,18 @@ module _ {L : Type 0} (line : L → LinkSeen) (lazy : Bool) (app : Application) 
       let here = subst (λ (l : List LogEntry). IsServedBy false (answer_spec_of lazy app sessions) (span before between) (events_of c s.pieces) l) v.entries all in
       link_run lazy app sessions c s.pieces (line visit.came).left before between mine taken whole.some here told
 
-  -- where the last one told, so did the first
+  -- If the contents of the keeper are known after the last connection, they are known before the
+  -- first.
   told_before : (c first : ℕ) (before after : RunSeen) (visits : List (LinkVisit L)) (log : List LogEntry) (audit : List ℕ)
       → AreVisited line (answer_spec_of lazy app sessions) c first before visits log audit after → IsTrue after.keeper.tells → IsTrue before.keeper.tells
   told_before c first before after [] log audit (none, nothing, same) told = subst (λ (k : RunSeen). IsTrue k.keeper.tells) same told
   told_before c first before after (visit ∷ visits) log audit (between, mine, lines, others, more, v, parts, text, later) told =
       v.served.served.entries.told (told_before (c + 1) (first + length mine) between after visits others more later told)
 
--- ---- two links of the same input
+-- ---- two connections with the same input
 
--- two links were served alike: their entries are so, and what is left of what looked the same
+-- Two connections were served alike: in their entries, and in what assignments show of the states
+-- that are left.
 record IsLinkAlike (before before' between between' : RunSeen) (mine mine' : List LogEntry) : Type 0 where
   pub entries : (start start' : State) → ((w : ℕ → Bool) → LookSame w start start' → LookSame w before.keeper.state before'.keeper.state)
       → AreLikeWhereShown start start' mine mine'
@@ -133,9 +135,10 @@ module _ {L M : Type 0} (line : L → LinkSeen) (other : M → LinkSeen) (lazy :
             e.ends (e.long refl refl);
       }
 
--- ---- link by link
+-- ---- connection by connection
 
--- two serves were alike: in their entries, and in what they leave of what looked the same
+-- Two serves were alike: in their entries, and in what assignments show of the states that are
+-- left.
 pub record AreLinksAlike (start start' : State) (after after' : RunSeen) (log others : List LogEntry) : Type 0 where
   pub entries : AreLikeWhereShown start start' log others
   pub left : (w : ℕ → Bool) → LookSame w start start' → LookSame w after.keeper.state after'.keeper.state
@@ -179,9 +182,9 @@ module _ {L M : Type 0} (line : L → LinkSeen) (other : M → LinkSeen) (lazy :
         left = behind.left;
       }
 
--- ---- the bytes of a link
+-- ---- the bytes of a connection
 
--- the link took the replies of its entries
+-- The connection received the replies of its entries.
 puts_whole : (first : ℕ) (link : Span LinkSeen) (log : List LogEntry) (result : Result ℕ Halt) (out audit : List ℕ) → PutsLog first link log result out audit
     → (Rose link.before.faults link.after.faults → ⊥) → (IsErr result → ⊥) → out ≡ replies_on spellings.Raw log
 puts_whole first link log (Ok count) out audit (inl put) calm answered = put.out_text
@@ -195,7 +198,7 @@ visit_holds line app c first k visit mine lines v whole =
     let out = puts_whole first (span (line visit.came) (line visit.gone)) v.served.log visit.result v.out lines v.served.puts whole.no_fault whole.answered in
     v.took whole.told ∙ ap (λ (l : List ℕ). (line visit.came).held ++ l) (out ∙ ap (λ (l : List LogEntry). replies_on spellings.Raw l) v.entries)
 
--- pages of the same labels, which show the same of both starts, and replies without a page
+-- Pages under the same labels, if these show the same of both starts, and replies without a page.
 seen_same : (start start' : State) (o : Option (List ℕ)) (one two : LogEntry) → IsLikeWhereShown start start' one two
     → ((labels : List ℕ) → one.answer.shown ≡ Some labels → LookSame (shown_by labels) start start') → one.answer.shown ≡ o → two.answer.shown ≡ o
     → seen_answer one.answer ≡ seen_answer two.answer
@@ -227,7 +230,7 @@ look_parts : (start start' : State) (log others : List LogEntry) → LookSameFor
 look_parts start start' [] others look = (tt, look)
 look_parts start start' (one ∷ log) others look = let rest = look_parts start start' log others look.1 in ((look.0, rest.0), rest.1)
 
--- logs that are alike are as long, so what follows them has its own labels
+-- Logs that are alike have the same length, so the labels of what follows them are the same too.
 label_parts : (start start' : State) (log others more rest : List LogEntry) → AreLikeWhereShown start start' log others → labels_of (log ++ more) ≡ labels_of (others ++ rest)
     → (labels_of log ≡ labels_of others) × (labels_of more ≡ labels_of rest)
 label_parts start start' [] [] more rest like labels = (refl, labels)

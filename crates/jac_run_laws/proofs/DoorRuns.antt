@@ -1,4 +1,4 @@
--- What a serve answered, from the statement of the top call, and two of them.
+-- What a serve answered, by the contract of the top call, and two serves.
 use Rattle.std.proofs.Common.{◌≡◌, ◌∙◌, ap, sym, subst, refl, inl, inr, ℕ, Bool, Result, Ok, Err, Option, Some, None, List, ◌++◌, append-nil, map}
 use Rattle.jac_io.specs.Seen.{SinkSeen}
 use Rattle.jac_world.specs.World.{shown_by}
@@ -35,7 +35,7 @@ use Rattle.jac_run_laws.proofs.DoorLinks.{AreLinksAlike, links_agree, links_hold
 all_returned : {L : Type 0} (visits : List (LinkVisit L)) (last : Option (LinkVisit L)) → last ≡ None → visits ++ open_visits last ≡ visits
 all_returned visits last none = ap (λ o. visits ++ open_visits o) none ∙ append-nil visits
 
--- out stood so where the steps ended
+-- `standing` is the output when the steps ended.
 module _ {L : Type 0} (serving : ServeArgs) (top : TopRun L) (standing : SinkSeen) (told : IsToldToEnd top) (out audit : List ℕ) (audit_took : Took top.seen.audit audit) where
   door_served : (app : Application) (sessions : List Session) (files : HoldServing top.seen.files.before.file serving app sessions)
       → IsServedAt top.line app sessions serving top.door (held_of top.seen (counts_of top)) (Ok tt) (sinks_of (standing_at top.seen standing)) out audit
@@ -132,7 +132,7 @@ module _ {L M : Type 0} (serving : ServeArgs) (one : TopRun L) (two : TopRun M) 
   abbrev left' : RunSeen
   left' = run_seen_with two.seen.keeper.after (counts_of two).after second.door_served.left
 
-  -- the second one served the application and the sessions of the first
+  -- The second serve served the application and the sessions of the first.
   there : AreVisited two.line (answer_spec_of serving.lazy first.app first.sessions) 1 0 opened' second.visits second.log second.audit left'
   there =
       let app = one_application one.seen.files.before.file two.seen.files.before.file serving first.app second.app first.sessions second.sessions files first.held second.held in

@@ -1,4 +1,4 @@
--- The first answers of a serve, of whichever link each of them is.
+-- The first answers of a serve, whichever connection each of them belongs to.
 use Rattle.std.proofs.Common.{◌≡◌, sym, subst, ℕ, ◌+◌, Bool, List, [], ◌∷◌, length}
 use Rattle.jac_io.specs.Linked.{LinkSeen}
 use Rattle.jac_lang.specs.Syntax.{Application}

@@ -1,4 +1,4 @@
--- The log of a link, whatever the pieces were in which its input was taken.
+-- The log of a connection doesn't depend on the pieces in which its input was taken.
 use Rattle.std.proofs.Common.{◌≡◌, ◌∙◌, ap, sym, subst, refl, ℕ, Bool, false, List, [], ◌∷◌, ◌++◌, map, append-nil, append_assoc, IsTrue}
 use Rattle.std.specs.List.{concat}
 use Rattle.jac_lang.specs.Syntax.{Application}
@@ -23,7 +23,7 @@ use Rattle.jac_dispatch.specs.Log.{application_hearing, IsAnswer, left_of, after
 use Rattle.jac_noninterference.specs.TwoRuns.{IsRunServed, NoneFailed}
 use Rattle.jac_plain.specs.Shown.{worlds_of}
 
--- ---- entries that are the same but for the places of their events
+-- ---- entries that are equal except for the places of their events
 
 pub record IsMoved (one two : LogEntry) : Type 0 where
   pub source : one.source ≡ two.source
@@ -92,7 +92,7 @@ none_moved [] (two ∷ others) m none = absurd m
 none_moved (one ∷ log) [] m none = absurd m
 none_moved (one ∷ log) (two ∷ others) m none = (ap is_failure m.0.answer ∙ none.0, none_moved log others m.1 none.1)
 
--- ---- any cutting
+-- ---- input in any pieces
 
 module _ (lazy : Bool) (app : Application) (sessions : List Session) (c : ℕ) where
   joined : (piece : List ℕ) (pieces : List (List ℕ)) (log : List LogEntry) → IsHeard (application_hearing app sessions) (events_of c (piece ∷ pieces)) log
@@ -116,7 +116,7 @@ module _ (lazy : Bool) (app : Application) (sessions : List Session) (c : ℕ) w
   joined_some (piece ∷ pieces) bytes log is some heard =
       subst (λ (b : List ℕ). IsHeardAlike (application_hearing app sessions) no_connections 0 (events_of c (b ∷ [])) log) is (joined piece pieces log heard)
 
-  -- a link was served: its log, as if its input had come in one piece
+  -- A connection was served. Its log, as if its input had come in one piece.
   pub record IsLinkRun (bytes : List ℕ) (before after : RunSeen) (log : List LogEntry) : Type 0 where
     pub other : List LogEntry
     pub moved : AreMoved other log

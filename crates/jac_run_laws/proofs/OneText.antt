@@ -1,4 +1,4 @@
--- The events and the log leave one text.
+-- The events and the log determine the text.
 use Rattle.std.proofs.Common.{◌≡◌, ◌∙◌, ap, sym, subst, refl, inl, inr, arith, ℕ, ◌+◌, ◌≤◌, Option, Some, None, List, [], ◌∷◌, ◌++◌, map}
 use Rattle.std.proofs.lemmas.List.{map-append}
 use Rattle.std.specs.Bool.{⊤}
@@ -14,12 +14,12 @@ use Rattle.jac_serve_events.specs.Log.{Brings, event_text, replies_text, closing
 use Rattle.jac_noninterference.specs.TwoRuns.{seen_answer, seen_entry}
 use Rattle.jac_noninterference.proofs.SameAnswers.{seen_put}
 
--- each entry is of the n-th event
+-- Each entry belongs to the n-th event.
 abbrev pub AllAt : ℕ → List LogEntry → Type 0
 AllAt n [] = ⊤
 AllAt n (entry ∷ log) = (entry.place ≡ n) × AllAt n log
 
--- each is of the n-th event or a later one
+-- Each entry belongs to the n-th event or a later one.
 abbrev pub AllFrom : ℕ → List LogEntry → Type 0
 AllFrom n [] = ⊤
 AllFrom n (entry ∷ log) = (n ≤ entry.place) × AllFrom n log
@@ -55,7 +55,7 @@ brings_from x known n (event ∷ events) log text later (mine, others, rest, par
     (at_from n mine others (event_at (hearing x) n event known mine brought)
     (brings_from x (after_both (hearing x) event mine known) (n + 1) events others rest later more))
 
--- an entry of the n-th event is none of a later one
+-- An entry of the n-th event doesn't belong to a later one.
 not_later : (n : ℕ) (entry : LogEntry) (rest others : List LogEntry) → entry.place ≡ n → AllFrom (n + 1) others → others ≡ entry ∷ rest → ⊥
 not_later n entry rest others at later is =
     let first = (subst (λ (l : List LogEntry). AllFrom (n + 1) l) is later).0 in omega (arith, at, first)
@@ -76,7 +76,7 @@ same_parts n (one ∷ mine) (two ∷ mine') others others' at at' later later' s
     let rest = same_parts n mine mine' others others' at.1 at'.1 later later' (rest_entries one two (mine ++ others) (mine' ++ others') same) in
     (λ i. first i ∷ rest.0 i, rest.1)
 
--- the text of the same events and the same log is the same
+-- The text of the same events and the same log is the same.
 pub one_text : (x : AnswerSpec) (known : Connections Ask) (n : ℕ) (events : List Event) (log : List LogEntry) (text text' : List ℕ) (later later' : Connections Ask)
     → Brings x known n events log text later → Brings x known n events log text' later' → text ≡ text'
 one_text x known n [] log text text' later later' (none, is, stays) (none', is', stays') = is ∙ sym is'
@@ -89,7 +89,7 @@ one_text x known n (event ∷ events) log text text' later later' (mine, others,
     let behind = one_text x (after_both (hearing x) event mine known) (n + 1) events others rest rest' later later' more there in
     is ∙ (λ i. event_text x event known (same.0 i) ++ behind i) ∙ sym is'
 
--- ---- the text doesn't tell what was consulted
+-- ---- the text doesn't depend on the consulted labels
 
 after_seen : (x : AnswerSpec) (source : Source) (entry : LogEntry) (known : Connections Ask)
     → connections_after (hearing x) source (seen_entry entry) known ≡ connections_after (hearing x) source entry known
@@ -138,7 +138,7 @@ text_seen : (x : AnswerSpec) (event : Event) (known : Connections Ask) (mine : L
 text_seen x event known mine =
     λ i. sym (replies_seen mine) i ++ closing_text event known (sym (entries_seen x mine (after_event event known)) i)
 
--- the same text is that of what is seen of the log
+-- The seen parts of the log's entries have the same text.
 pub brings_seen : (x : AnswerSpec) (known : Connections Ask) (n : ℕ) (events : List Event) (log : List LogEntry) (text : List ℕ) (later : Connections Ask)
     → Brings x known n events log text later → Brings x known n events (map seen_entry log) text later
 brings_seen x known n [] log text later (none, is, stays) = (none_seen log none, is, stays)

@@ -1,4 +1,4 @@
--- What a replay answered, from the statement of the top call.
+-- What a replay answered, by the contract of the top call.
 use Rattle.std.proofs.Common.{◌≡◌, ◌∙◌, ap, sym, subst, refl, inl, inr, ℕ, Bool, false, IsTrue, Result, Ok, Err, Option, Some, None, List, ◌++◌, append-nil}
 use Rattle.jac_io.specs.Seen.{FilesSeen, SinkSeen}
 use Rattle.jac_lang.specs.Syntax.{Application}
@@ -28,7 +28,7 @@ use Rattle.jac_app.specs.Run.{Ends, Runs}
 use Rattle.jac_command_base.proofs.DoneLemmas.{not_done, no_usage, no_memory, closes_not_done}
 use Rattle.jac_run_laws.specs.Replayed.{TopRun, IsTopRun, IsToldToEnd, HoldSessions, HasReplayed, counts_of}
 
--- what the top call promises of the events that an application was served
+-- What the contract of the top call says of the events that an application was served.
 pub serves : (lazy early : Bool) (app : Application) (sessions : List Session) (k : Span RunSeen) (events : List Event) (log : List LogEntry)
     → IsServedBy early (answer_spec_of lazy app sessions) k events log → IsTrue k.after.keeper.tells
     → Serves lazy early app sessions k.before.keeper.state events log k.after.keeper.state
@@ -52,7 +52,7 @@ sessions_held files (Some name) sessions told (bytes, read, listed) = (bytes, re
 
 -- ---- the events were served
 
--- out stood so where the steps ended
+-- `standing` is the output when the steps ended.
 module _ {L : Type 0} (replay : Replay) (top : TopRun L) (standing : SinkSeen) (told : IsToldToEnd top) (out audit : List ℕ) (out_took : Took top.seen.out out) (audit_took : Took top.seen.audit audit) where
   replayed_on : (app : Application) (sessions : List Session) (bytes : List ℕ) → IsOpened (standing_at top.seen standing) (commands.Replay replay) app sessions bytes
       → IsServedOn (commands.Replay replay) app sessions (held_of top.seen (counts_of top)) (script_of bytes) (Ok tt)

@@ -1,4 +1,4 @@
--- Two replays whose audits are the same bytes put the same replies.
+-- Two replays whose audits are the same bytes write the same replies.
 use Rattle.std.proofs.Common.{◌≡◌, ◌∙◌, ap, sym, subst, refl, ℕ, Bool, true, List, [], ◌∷◌, map}
 use Rattle.jac_world.specs.World.{shown_by}
 use Rattle.jac_lang.specs.Syntax.{Application}
@@ -17,7 +17,7 @@ use Rattle.jac_run_laws.proofs.AuditLines.{none_failed, looks_same, labels_by_te
 use Rattle.jac_run_laws.proofs.OneText.{one_text, brings_seen}
 use Rattle.jac_noninterference.proofs.SideBySide.{views_agree}
 
--- somebody who sees each entry
+-- An observer who sees each entry.
 abbrev pub each_entry : Source → LogSubject → Bool
 each_entry source subject = true
 

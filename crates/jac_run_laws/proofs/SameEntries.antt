@@ -1,4 +1,4 @@
--- Logs whose audits are the same bytes, with the same text or of the same events.
+-- Logs whose audits are the same bytes, and which have the same text or the same events.
 use Rattle.std.proofs.Common.{◌≡◌, ◌∙◌, sym, subst, ℕ, Bool, true, false, List, [], ◌∷◌}
 use Rattle.jac_lang.specs.Syntax.{Application}
 use Rattle.jac_events.specs.declared.event.Event.{Event}

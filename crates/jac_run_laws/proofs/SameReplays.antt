@@ -1,4 +1,4 @@
--- Two replays of the same words over the same files read the same.
+-- Two replays of the same words over files with the same contents read the same.
 use Rattle.std.proofs.Common.{◌≡◌, ◌∙◌, ap, sym, subst, ℕ, Ok, Option, Some, None, List}
 use Rattle.jac_lang.specs.Syntax.{Application}
 use Rattle.jac_app_load.specs.Application.{IsApplication}
@@ -20,7 +20,7 @@ same_bytes one two o is is' = let same : Some one ≡ Some two = sym is ∙ is' 
 same_sessions : (bytes : List ℕ) (one two : List Session) → sessions_in bytes ≡ Ok one → sessions_in bytes ≡ Ok two → one ≡ two
 same_sessions bytes one two is is' = let same = sym is ∙ is' in cc
 
--- files that hold the same by name
+-- Files of the same name have the same contents.
 abbrev pub AreSameFiles : (List ℕ → Option (List ℕ)) → (List ℕ → Option (List ℕ)) → Type 0
 AreSameFiles file other = (name : List ℕ) → file name ≡ other name
 
@@ -31,7 +31,7 @@ one_sessions file (Some name) one two (bytes, file_is, listed) (other, file_is',
     let same = same_bytes bytes other (file name) file_is file_is' in
     same_sessions other one two (subst (λ (b : List ℕ). sessions_in b ≡ Ok one) same listed) listed'
 
--- what the files of a replay hold is one application, and so on
+-- The files of a replay contain only one application, one list of sessions and one list of events.
 pub record IsSameReplay (app other : Application) (sessions others : List Session) (events more : List Event) : Type 0 where
   pub application : app ≡ other
   pub sessions_same : sessions ≡ others
@@ -54,7 +54,7 @@ other_files file other replay app sessions events same held =
     let path : file ≡ other = λ i name. same name i in
     subst (λ (f : List ℕ → Option (List ℕ)). HoldReplay f replay app sessions events) (sym path) held
 
--- a replay of what is one application, and so on
+-- A replay of the same application, sessions and events.
 replay_moved : {L : Type 0} (replay : Replay) (top : TopRun L) (app other : Application) (sessions others : List Session) (events more : List Event) (run : OneRun) (out audit : List ℕ)
     → IsSameReplay app other sessions others events more → IsReplayed replay top other others more run out audit → IsReplayed replay top app sessions events run out audit
 replay_moved replay top app other sessions others events more run out audit same is =

@@ -21,7 +21,7 @@ use Rattle.jac_run_laws.proofs.AuditLines.{all_append, all_through, numerals, is
 
 -- ---- a line ends at its line feed
 
--- a byte within a line
+-- A byte within a line.
 abbrev pub is_in_line : ℕ → Bool
 is_in_line c = not (c == 10)
 
@@ -127,7 +127,7 @@ source_by_line (connection c) (connection d) subject subject' answer answer' sma
 
 -- ---- a text by its lines
 
--- the line of a reply, or that a connection was closed
+-- The line of a reply, or the line of a closed connection.
 abbrev pub TextLine : Type 0
 TextLine = LogEntry ⊎ ℕ
 
@@ -159,7 +159,7 @@ entries_append [] more = refl
 entries_append (inl entry ∷ lines) more = ap (λ (l : List LogEntry). entry ∷ l) (entries_append lines more)
 entries_append (inr c ∷ lines) more = entries_append lines more
 
--- the text has a line for each entry of the log, and some lines of closings between them
+-- The text has a line for each entry of the log, and lines of closed connections between them.
 pub record IsTextOf (log : List LogEntry) (text : List ℕ) : Type 0 where
   pub lines : List TextLine
   pub text_is : text ≡ text_of lines

@@ -1,5 +1,5 @@
--- Two runs of the top call that serve the same words over the same files, whose doors gave links
--- with the same input.
+-- Two runs of the top call that serve with the same words and files, over links with the same
+-- input.
 use Rattle.std.specs.Prelude.{◌≡◌, ⊤, ℕ, IsTrue, IsErr, Option, Some, None, List, [], ◌∷◌, ◌++◌, map}
 use Rattle.jac_io.specs.Faults.{Rose}
 use Rattle.jac_io.specs.Linked.{LinkSeen}
@@ -21,7 +21,7 @@ use Rattle.jac_viewer_caches.specs.declared.viewer_caches.ViewerEntry.{ViewerEnt
 use Rattle.jac_noninterference.specs.TwoRuns.{LookSame, seen_answer}
 use Rattle.jac_run_laws.specs.Replayed.{TopRun, HoldSessions, counts_of}
 
--- the files of a serve hold this application and these sessions
+-- The files of a serve contain this application and these sessions.
 pub record HoldServing (file : List ℕ → Option (List ℕ)) (serving : ServeArgs) (app : Application)
     (sessions : List Session) : Type 0 where
   pub app_bytes : List ℕ
@@ -29,9 +29,10 @@ pub record HoldServing (file : List ℕ → Option (List ℕ)) (serving : ServeA
   pub spelled : IsApplication app_bytes app
   pub sessions_held : HoldSessions file serving.sessions sessions
 
--- the links that a door gave were served one after another, from what the store had once it was
--- attached, where a GET's page resolves only what it consults if the words say so; the log is that
--- of all of them, whose audit lines were put. Something is left at the end for those who looked
+-- The connections were served one after another, from the state of the store after it was attached.
+-- If the words say so, a GET's page resolves only the labels that it consults. The log has the
+-- entries of all connections, and its audit lines were written. `left` has the entries of the
+-- viewer caches at the end.
 pub record IsDoorServed {L : Type 0} (serving : ServeArgs) (top : TopRun L) (app : Application)
     (sessions : List Session) (start : State) (visits : List (LinkVisit L)) (log : List LogEntry)
     (audit : List ℕ) : Type 0 where
@@ -52,7 +53,7 @@ pub record IsDoorServed {L : Type 0} (serving : ServeArgs) (top : TopRun L) (app
   pub audit_is : audit ≡ audit_lines log
   pub audit_took : Took top.seen.audit audit
 
--- what a serve read, and how it answered what came
+-- What a serve read, and how it answered its connections.
 pub record HasServed {L : Type 0} (serving : ServeArgs) (top : TopRun L) : Type 0 where
   pub app : Application
   pub sessions : List Session
@@ -63,8 +64,8 @@ pub record HasServed {L : Type 0} (serving : ServeArgs) (top : TopRun L) : Type 
   pub held : HoldServing top.seen.files.before.file serving app sessions
   pub door_served : IsDoorServed serving top app sessions start visits log audit
 
--- the link tells to the end, it brought something, all of which was taken, and neither it nor the
--- call on it failed
+-- The contents of the connection are known at the end. It brought some input, all of which was
+-- taken. No fault happened on it, and the call that served it succeeded.
 pub record IsTakenWhole {L : Type 0} (line : L → LinkSeen) (visit : LinkVisit L) : Type 0 where
   pub told : IsTrue (line visit.gone).tells
   pub some : (line visit.came).left ≡ [] → ⊥
@@ -72,7 +73,7 @@ pub record IsTakenWhole {L : Type 0} (line : L → LinkSeen) (visit : LinkVisit 
   pub no_fault : Rose (line visit.came).faults (line visit.gone).faults → ⊥
   pub answered : IsErr visit.result → ⊥
 
--- link by link the same input came, and all of it was taken in both
+-- Connection by connection the input is the same, and all of it was taken in both serves.
 abbrev pub AreTakenAlike : {L M : Type 0} → (L → LinkSeen) → (M → LinkSeen) → List (LinkVisit L)
     → List (LinkVisit M) → Type 0
 AreTakenAlike line other [] [] = ⊤
@@ -83,11 +84,11 @@ AreTakenAlike line other (one ∷ visits) (two ∷ more) =
     × ((line one.came).left ≡ (other two.came).left)
     × AreTakenAlike line other visits more
 
--- the link took these bytes while it was served
+-- The connection received these bytes while it was served.
 abbrev pub HoldsMore : {L : Type 0} → (L → LinkSeen) → LinkVisit L → List ℕ → Type 0
 HoldsMore line visit bytes = (line visit.gone).held ≡ (line visit.came).held ++ bytes
 
--- link by link, both took the same bytes
+-- Connection by connection, both serves sent the same bytes.
 abbrev pub HoldSameMore : {L M : Type 0} → (L → LinkSeen) → (M → LinkSeen) → List (LinkVisit L)
     → List (LinkVisit M) → Type 0
 HoldSameMore line other [] [] = ⊤
@@ -97,8 +98,9 @@ HoldSameMore line other (one ∷ visits) (two ∷ more) =
     ((bytes : List ℕ) × HoldsMore line one bytes × HoldsMore other two bytes)
     × HoldSameMore line other visits more
 
--- the same was asked; what is seen of replies without a page is the same, and so it is of those
--- whose pages were made under the same labels, where these show the same of both starts
+-- The requests are the same. The seen parts of the replies are the same if they have no page. They
+-- are also the same if their pages were made under the same labels and these labels show the same
+-- of both starts.
 pub record IsLikeWhereShown (start other : State) (one two : LogEntry) : Type 0 where
   pub source : one.source ≡ two.source
   pub subject : one.subject ≡ two.subject
@@ -110,7 +112,7 @@ pub record IsLikeWhereShown (start other : State) (one two : LogEntry) : Type 0 
       → one.answer.shown ≡ Some labels → two.answer.shown ≡ Some labels
       → seen_answer one.answer ≡ seen_answer two.answer
 
--- entry by entry, of as many
+-- Entry by entry. The logs have the same length.
 abbrev pub AreLikeWhereShown : State → State → List LogEntry → List LogEntry → Type 0
 AreLikeWhereShown start other [] [] = ⊤
 AreLikeWhereShown start other [] (two ∷ others) = ⊥

@@ -1,5 +1,5 @@
--- Two runs of the top call that replay the same words over the same files: what each of them read,
--- the log of what it answered, and what it put.
+-- Two runs of the top call that replay with the same words and files: what each of them read, the
+-- log of what it answered, and what it wrote.
 use Rattle.std.specs.Prelude.{◌≡◌, ◌⊎◌, ⊤, ℕ, Bool, false, ◌<◌, ◌^◌, IsTrue, Ok, Option, Some, None, List, [], ◌∷◌, ◌++◌, codes, decimal}
 use Rattle.std.specs.List.{AllByRecursion}
 use Rattle.jac_io.specs.Linked.{LinkSeen, DoorSeen}
@@ -27,8 +27,9 @@ use Rattle.jac_viewer_caches.specs.declared.viewer_caches.ViewerEntry.{ViewerEnt
 use Rattle.jac_app.specs.Run.{IsRun}
 use Rattle.jac_noninterference.specs.TwoRuns.{OneRun, IsRunServed}
 
--- from an opened store to this end, the first answer to each viewer took few evaluations, where so
--- much was counted before and after the call; something is left then for those who looked
+-- From an opened store to this end, the first answer to each viewer took few evaluations. `counts`
+-- are the counts before and after the call, and `left` has the entries of the viewer caches at the
+-- end.
 pub record AreFewFrom (lazy : Bool) (app : Application) (finish : KeeperSeen)
     (counts : Span RunCounts) (opened : KeeperSeen) (log : List LogEntry) : Type 0 where
   pub left : List ViewerEntry
@@ -36,8 +37,8 @@ pub record AreFewFrom (lazy : Bool) (app : Application) (finish : KeeperSeen)
       AreFewAtFirst lazy app
       (span (run_seen_of opened counts.before) (run_seen_with finish counts.after left)) log
 
--- a call of the program's top function: how it sees a link, what it sees of the outside, its door,
--- how many facets were split, how often policies were evaluated, and its status
+-- A call of the program's top function: how it sees a connection, what it sees of the outside, its
+-- door, how many facets were split, how many policies were evaluated, and its status.
 pub record TopRun (L : Type 0) : Type 0 where
   pub line : L → LinkSeen
   pub seen : Sight
@@ -46,29 +47,30 @@ pub record TopRun (L : Type 0) : Type 0 where
   pub evaluations : Span ℕ
   pub status : Status
 
--- what was counted before and after
+-- The counts before and after the call.
 abbrev pub counts_of : {L : Type 0} → TopRun L → Span RunCounts
 counts_of top =
     span (run_counts top.splits.before top.evaluations.before)
     (run_counts top.splits.after top.evaluations.after)
 
--- it ran with these words
+-- The call ran with these words.
 abbrev pub IsTopRun : {L : Type 0} → List (List ℕ) → TopRun L → Type 0
 IsTopRun words top = IsRun top.line top.seen top.door (counts_of top) words top.status
 
--- it ended with status 0, and its files and its store tell to the end
+-- The call ended with status 0, and the contents of its files and its store are known at the end.
 pub record IsToldToEnd {L : Type 0} (top : TopRun L) : Type 0 where
   pub done : top.status ≡ statuses.Done
   pub files : IsTrue top.seen.files.after.tells
   pub keeper : IsTrue top.seen.keeper.after.tells
 
--- the sessions that the file of this name holds; without a name there are none
+-- The sessions in the file of this name. If there is no name, there are no sessions.
 abbrev pub HoldSessions : (List ℕ → Option (List ℕ)) → Option (List ℕ) → List Session → Type 0
 HoldSessions file None sessions = sessions ≡ []
 HoldSessions file (Some name) sessions =
     (bytes : List ℕ) × (file name ≡ Some bytes) × (sessions_in bytes ≡ Ok sessions)
 
--- the files of a replay hold this application, these sessions, and lines that are these events
+-- The files of a replay contain this application, these sessions and these events, and no line of
+-- the events is refused.
 pub record HoldReplay (file : List ℕ → Option (List ℕ)) (replay : Replay) (app : Application)
     (sessions : List Session) (events : List Event) : Type 0 where
   pub app_bytes : List ℕ
@@ -80,9 +82,9 @@ pub record HoldReplay (file : List ℕ → Option (List ℕ)) (replay : Replay) 
   pub events_are : (script_of event_bytes).events ≡ events
   pub no_event_fault : (script_of event_bytes).refused ≡ None
 
--- the events were answered from what the store had once it was attached, where a GET's page
--- resolves only what it consults if the words say so; what was put is the text of the log, and its
--- audit lines
+-- The events were answered from the state of the store after it was attached. If the words say so,
+-- a GET's page resolves only the labels that it consults. The output is the text of the log, and
+-- the audit has its lines.
 pub record IsReplayed {L : Type 0} (replay : Replay) (top : TopRun L) (app : Application)
     (sessions : List Session) (events : List Event) (run : OneRun) (out audit : List ℕ)
     : Type 0 where
@@ -101,8 +103,8 @@ pub record IsReplayed {L : Type 0} (replay : Replay) (top : TopRun L) (app : App
   pub out_took : Took top.seen.out out
   pub audit_took : Took top.seen.audit audit
 
--- what a replay read, and how it answered that; the first answer to each viewer took few
--- evaluations
+-- What a replay read, and how it answered the events. The first answer to each viewer took few
+-- evaluations.
 pub record HasReplayed {L : Type 0} (replay : Replay) (top : TopRun L) : Type 0 where
   pub app : Application
   pub sessions : List Session
@@ -114,7 +116,7 @@ pub record HasReplayed {L : Type 0} (replay : Replay) (top : TopRun L) : Type 0 
   pub replayed : IsReplayed replay top app sessions events run out audit
   pub few : AreFewFrom replay.lazy app top.seen.keeper.after (counts_of top) replayed.opened run.log
 
--- two replays read the same, and each answered that
+-- Two replays read the same, and each answered the events.
 pub record HaveReplayed {L M : Type 0} (replay : Replay) (one : TopRun L) (two : TopRun M)
     : Type 0 where
   pub app : Application
@@ -130,11 +132,11 @@ pub record HaveReplayed {L M : Type 0} (replay : Replay) (one : TopRun L) (two :
   pub replayed : IsReplayed replay one app sessions events first first_out first_audit
   pub replayed_too : IsReplayed replay two app sessions events second second_out second_audit
 
--- bytes after which a line begins
+-- A line begins after these bytes.
 abbrev pub BeginsLine : List ℕ → Type 0
 BeginsLine front = (front ≡ []) ⊎ ((line : List ℕ) × (front ≡ line ++ 10 ∷ []))
 
--- a line of the audit has this word after its number
+-- A line of the audit has this word after its number.
 pub record HasStatusWord (audit word : List ℕ) : Type 0 where
   pub front : List ℕ
   pub number : ℕ
@@ -142,12 +144,12 @@ pub record HasStatusWord (audit word : List ℕ) : Type 0 where
   pub begins : BeginsLine front
   pub is : audit ≡ front ++ (decimal number ++ (word ++ rest))
 
--- no line of the audit has the status 500 or 503
+-- No line of the audit has the status 500 or 503.
 pub record TellsNoFailure (audit : List ℕ) : Type 0 where
   pub no_500 : HasStatusWord audit (codes " 500 ") → ⊥
   pub no_503 : HasStatusWord audit (codes " 503 ") → ⊥
 
--- a line of the audit tells of a page under these labels
+-- A line of the audit is about a page under these labels.
 pub record TellsPage (audit labels : List ℕ) : Type 0 where
   pub front : List ℕ
   pub number : ℕ
@@ -162,7 +164,7 @@ abbrev pub AreSmall : Option (List ℕ) → Type 0
 AreSmall None = ⊤
 AreSmall (Some labels) = AllByRecursion (λ k. k < 2 ^ 128) labels
 
--- each label of each page has 128 bits at most, as all have that the program writes
+-- Each label of each page has at most 128 bits. All labels that the program writes do.
 abbrev pub HaveSmallLabels : List LogEntry → Type 0
 HaveSmallLabels [] = ⊤
 HaveSmallLabels (entry ∷ log) = AreSmall entry.answer.shown × HaveSmallLabels log

@@ -1,5 +1,5 @@
-//! The laws of two runs of the top call, of the same words over the same files: what they read is
-//! the same, and what they put is the same where their audits are.
+//! Laws on two runs with the same arguments and files: they read the same, and if their audits are
+//! the same, they write the same bytes.
 #![tactic(auto)]
 
 mod laws;
