@@ -1,4 +1,4 @@
--- What lives in the diary, and what its labels show.
+-- Which labels of the diary are live, and what they show.
 use Rattle.std.proofs.Common.{◌≡◌, ◌⊎◌, inl, inr, refl, subst, sym, ◌∙◌, ℕ, zero, suc, Bool, true, false, true≢false, if◌then◌else◌, codes, List, [], ◌∷◌, Some, None, slice_get, arith}
 use Rattle.std.proofs.lemmas.Bool.Decides.{eqb_tells}
 use Rattle.jac_value.specs.declared.value.Value.TheVariants as value
@@ -14,7 +14,7 @@ use Rattle.jac_plain.specs.Policies.{IsLiveLabel, is_allowed, with_label, is_som
 use Rattle.jac_semantics_examples.specs.Library.{row}
 use Rattle.jac_semantics_examples.specs.Diary.{diary_app, diary_models, diary_with, event_row, guarded_diary, title_group, place_group}
 
--- what one number has, or two, each number has that a list of them shows
+-- A property of one number, or of two, is one of each number that a list of them shows.
 pub one_shown : (P : ℕ → Type 0) (a k : ℕ) → P a → shown_by (a ∷ []) k ≡ true → P k
 one_shown P a k pa s =
     elim (eqb_tells a k) [
@@ -29,7 +29,7 @@ two_shown P a b k pa pb s =
       | inr h ↦ one_shown P b k pb (rw h.0 at s)
     ]
 
--- a row at the front that doesn't stand for the record leaves it to the others
+-- If the first row isn't the record's, the record is among the others.
 front_or_behind : (a id : ℕ) (r : PlainRow) (rows : List PlainRow) → r.id ≡ a → stands (record_with id (r ∷ rows)) ≡ true
     → (id ≡ a) ⊎ (stands (record_with id rows) ≡ true)
 front_or_behind a id r rows e h =
@@ -47,7 +47,7 @@ bob = row 4160 (value.Text (codes "Bob") ∷ [])
 abbrev event_of : (ℕ → Bool) → PlainRow
 event_of w = event_row (if w 65552 then codes "dentist" else codes "private") (Some 4096) false (if w 65553 then codes "clinic" else codes "with 4096")
 
--- the records of the diary, whatever its event says
+-- The records of the diary, whatever its event says.
 recorded : (event : PlainRow) (id m : ℕ) → event.id ≡ 8194
     → stands (record_with id (rows_of (diary_with event).tables m)) ≡ true → (id ≡ 4096) ⊎ ((id ≡ 4160) ⊎ (id ≡ 8194))
 recorded event id zero is_event h =
@@ -69,13 +69,13 @@ of_two_groups zero h = inl refl
 of_two_groups (suc zero) h = inr refl
 of_two_groups (suc (suc n)) h = absurd (let e : false ≡ true = h in cc)
 
--- the label's group, where its record is this
+-- The group of a label of this record.
 grouped : (worlds : Worlds) (k id : ℕ) → IsLiveLabel diary_app worlds k → record_of_label k ≡ id
     → is_some_group (slice_get (groups_at diary_models (model_of_id id)) (group_of_label k)) ≡ true
 grouped worlds k id live e =
     subst (λ (i : ℕ). is_some_group (slice_get (groups_at diary_models (model_of_id i)) (group_of_label k)) ≡ true) e live.group
 
--- the live labels are those of the event's groups, whatever the event says
+-- The live labels are those of the event's groups, whatever the event says.
 pub live_with : (event : (ℕ → Bool) → PlainRow) → ((w : ℕ → Bool) → (event w).id ≡ 8194) → (k : ℕ)
     → IsLiveLabel diary_app (λ w. diary_with (event w)) k → (k ≡ 65552) ⊎ (k ≡ 65553)
 live_with event is_event k live =
@@ -99,7 +99,7 @@ title_lives = record { group = refl; seen_by = λ k. true; stands = refl }
 pub place_lives : IsLiveLabel diary_app guarded_diary 65553
 place_lives = record { group = refl; seen_by = λ k. true; stands = refl }
 
--- what is settled for whom
+-- Which labels are settled for which viewers.
 
 pub host_settled : IsSettled diary_app guarded_diary (Some 4096) (65552 ∷ 65553 ∷ [])
 host_settled = record {
@@ -137,13 +137,13 @@ nobody_settled = record {
       ];
 }
 
--- one more may be added
+-- One more label can be added.
 pub guest_lacks_place : IsSettled diary_app guarded_diary (Some 4160) [] → ⊥
 guest_lacks_place s =
     let f = s.full 65553 place_lives refl in
     true≢false
     (sym (one_shown (λ j. is_allowed diary_app (guarded_diary (with_label 65553 (shown_by []))) (Some 4160) j ≡ true) 65553 f.label refl f.is_shown) ∙ f.forbidden)
 
--- one is forbidden
+-- One label is forbidden.
 pub guest_without_title : IsSettled diary_app guarded_diary (Some 4160) (65552 ∷ 65553 ∷ []) → ⊥
 guest_without_title s = let no : false ≡ true = s.allowed 65552 refl in cc

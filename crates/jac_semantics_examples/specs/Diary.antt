@@ -1,4 +1,4 @@
--- A diary with guarded fields, records that are hidden and records that are made in a loop.
+-- A diary with guarded fields, hidden records, and records that are made in a loop.
 use Rattle.std.specs.Prelude.{ℕ, Bool, true, false, if◌then◌else◌, List, [], ◌∷◌, Option, Some, None, codes}
 use Rattle.jac_value.specs.declared.value.Value.TheVariants as value
 use Rattle.jac_world.specs.World.{shown_by}
@@ -12,7 +12,7 @@ use Rattle.jac_plain.specs.Statements.{Setting, Run, leaves_all}
 use Rattle.jac_semantics_examples.specs.Terms.{word, the, eq, and_also, or_also, cat_of, a_field, sets, steps}
 use Rattle.jac_semantics_examples.specs.Library.{entity_user, row, begun_with, names_value}
 
--- made in a loop
+-- Its records are made in a loop.
 abbrev pub entity_invite : Entity
 entity_invite = record {
   name = codes "Invite";
@@ -21,7 +21,7 @@ entity_invite = record {
   groups = [];
 }
 
--- the title is for the host, and for everybody where the event is open
+-- The title is for the host, and for everybody if the event is open.
 abbrev pub title_group : FieldGroup
 title_group = record {
   guards = sets (codes "title") (word (codes "private")) ∷ [];
@@ -30,7 +30,7 @@ title_group = record {
       (eq (Expression.get (codes "Event") (codes "host") Expression.this) Expression.viewer);
 }
 
--- the place is for everybody who is known
+-- The place is for everybody who is logged in.
 abbrev pub place_group : FieldGroup
 place_group = record {
   guards = sets (codes "place") (cat_of (word (codes "with ") ∷ Expression.str
@@ -48,7 +48,7 @@ entity_event = record {
   groups = title_group ∷ place_group ∷ [];
 }
 
--- an entry is there for its owner alone
+-- Only the owner sees an entry.
 abbrev pub entry_group : FieldGroup
 entry_group = record {
   guards = [];
@@ -78,7 +78,7 @@ couple = row 4096 (value.Text (codes "Ann") ∷ []) ∷ row 4160 (value.Text (co
 abbrev pub bare_diary : List (List PlainRow)
 bare_diary = couple ∷ [] ∷ [] ∷ [] ∷ []
 
--- an event of Ann's with this title, host and place, that is open or isn't
+-- An event of Ann's with this title, host and place, open or not.
 abbrev pub event_row : List ℕ → Option ℕ → Bool → List ℕ → PlainRow
 event_row title host is_open place = row 8194 (value.Text title ∷ value.Ref host
     ∷ value.Bool is_open ∷ value.Text place ∷ [])
@@ -89,7 +89,7 @@ dentist = event_row (codes "dentist") (Some 4096) false (codes "clinic")
 abbrev pub diary_with : PlainRow → PlainState
 diary_with event = record { tables = couple ∷ [] ∷ (event ∷ []) ∷ [] ∷ []; number = 3 }
 
--- notes whose words are guarded: for others they are the number of the record
+-- Notes with guarded words. Other viewers see the number of the record instead.
 abbrev pub numbered_models : List Entity
 numbered_models = record {
   name = codes "Note";
@@ -102,7 +102,7 @@ numbered_models = record {
   } ∷ [];
 } ∷ []
 
--- a request of Ann's of this number, with these labels shown
+-- A request of Ann's with this number, under these labels.
 abbrev pub asked_for : List ℕ → ℕ → Setting
 asked_for labels number = record {
   models = diary_models;
@@ -112,12 +112,12 @@ asked_for labels number = record {
   around = None;
 }
 
--- the events that statements leave, with `e` bound to the event of the second request
+-- The events after these statements, with `e` bound to the event of the second request.
 abbrev pub events_left : List ℕ → List Statement → List (List PlainRow) → List PlainRow
 events_left labels ss tables = rows_of (leaves_all (asked_for labels 2) (steps ss)
     (begun_with (names_value (codes "e") (value.Ref (Some 8194)) ∷ []) tables)).tables 2
 
--- what statements of the request of this number leave where no event stands
+-- What statements of the request with this number leave if there is no event.
 abbrev pub leaves_diary : List ℕ → ℕ → List Statement → Run
 leaves_diary labels number ss =
     leaves_all (asked_for labels number) (steps ss) (begun_with [] bare_diary)
@@ -125,17 +125,17 @@ leaves_diary labels number ss =
 abbrev pub diary_puts : ℕ → List Statement → List ℕ
 diary_puts number ss = body_of (leaves_diary [] number ss).pieces
 
--- a visit to the dentist, as a create sets it
+-- A create for a visit to the dentist.
 abbrev pub make_dentist : Statement
 make_dentist = Statement.create (codes "d") (codes "Event") 0
     (sets (codes "title") (word (codes "dentist")) ∷ sets (codes "host") Expression.viewer
     ∷ sets (codes "place") (word (codes "clinic")) ∷ []) (steps [])
 
--- an event of this site, in which these statements stand
+-- An event of this site, with these statements inside.
 abbrev pub makes_event : ℕ → List Statement → Statement
 makes_event site ss = Statement.create (codes "d") (codes "Event") site [] (steps ss)
 
--- an invitation
+-- A create for an invitation.
 abbrev pub makes_invite : Statement
 makes_invite = Statement.create (codes "i") (codes "Invite") 0
     (sets (codes "to") (the (codes "u")) ∷ []) (steps [])
@@ -145,14 +145,14 @@ make_entry = Statement.create (codes "n") (codes "Entry") 1
     (sets (codes "words") (word (codes "hm")) ∷ sets (codes "owner") Expression.viewer ∷ [])
     (steps (Statement.put (the (codes "n")) ∷ []))
 
--- the diary with an entry whose owner this is
+-- The diary with an entry of this owner.
 abbrev pub entry_state : Option ℕ → PlainState
 entry_state owner = record {
   tables = couple ∷ [] ∷ [] ∷ (row 8259 (value.Text (codes "hm") ∷ value.Ref owner ∷ []) ∷ []) ∷ [];
   number = 3;
 }
 
--- the diary with an event of Ann's at the dentist, as the labels that are shown leave it
+-- The diary with an event of Ann's at the dentist, as an assignment shows it.
 abbrev pub guarded_diary : (ℕ → Bool) → PlainState
 guarded_diary w = diary_with (event_row (if w 65552 then codes "dentist" else codes "private")
     (Some 4096) false (if w 65553 then codes "clinic" else codes "with 4096"))

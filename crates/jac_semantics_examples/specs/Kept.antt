@@ -1,10 +1,10 @@
--- Statements of each form, and statements in which another one stands.
+-- One statement of each form, and statements that contain another one.
 use Rattle.std.specs.Prelude.{ℕ, List, [], ◌∷◌, true, codes}
 use Rattle.jac_lang.specs.declared.queries.Order.TheVariants as orders
 use Rattle.jac_lang.specs.Syntax.{Statement}
 use Rattle.jac_semantics_examples.specs.Terms.{num, word, truth, sole, asks, steps}
 
--- one statement of each form, in the order of `Statement`
+-- One statement of each form, in the order of `Statement`.
 abbrev pub all_forms : List Statement
 all_forms = Statement.put (num 1) ∷ Statement.escape (num 1)
     ∷ Statement.bind (codes "x") (num 1) (steps []) ∷ Statement.assign (codes "x") (num 1)
@@ -15,7 +15,7 @@ all_forms = Statement.put (num 1) ∷ Statement.escape (num 1)
     ∷ Statement.missing ∷ Statement.redirect (word (codes "/"))
     ∷ Statement.template (codes "a") ∷ Statement.block (steps []) ∷ []
 
--- the statement inside of others: a `let`, both sides of an `if`, a `for` and a block
+-- The statement inside others: a `let`, both sides of an `if`, a `for` and a block.
 abbrev pub inside_others : Statement → List Statement
 inside_others s = Statement.bind (codes "x") (num 1) (steps (s ∷ []))
     ∷ Statement.branch (truth true) (steps (s ∷ [])) (steps [])
@@ -24,6 +24,6 @@ inside_others s = Statement.bind (codes "x") (num 1) (steps (s ∷ []))
     (steps (s ∷ []))
     ∷ Statement.block (steps (s ∷ [])) ∷ []
 
--- a create at this place
+-- A create at this site.
 abbrev pub siting : ℕ → Statement
 siting site = Statement.create (codes "b") (codes "Book") site [] (steps [])

@@ -52,7 +52,7 @@ entity_loan = record {
 abbrev pub library_models : List Entity
 library_models = entity_user ∷ entity_reader ∷ entity_book ∷ entity_loan ∷ []
 
--- the first record of a model, in the order in which they were made
+-- The record of a model that was made first.
 abbrev pub first_made : List ℕ → Expression
 first_made m = Expression.first (sole (codes "x") m) (truth true) orders.Key
 
@@ -80,7 +80,7 @@ fill_view = record {
   body = steps fill_steps;
 }
 
--- a view that shows the books, and one that says that there is nothing
+-- A view that shows how many books there are, and a view that says that there is nothing.
 abbrev pub books_view : Page
 books_view = record {
   method = verbs.Get;
@@ -98,7 +98,7 @@ gone_view = record {
   body = steps (Statement.missing ∷ Statement.put (word (codes "gone")) ∷ []);
 }
 
--- a view that shows its parameter, to whoever is known
+-- A view that shows its parameter and the viewer's id.
 abbrev pub word_view : Page
 word_view = record {
   method = verbs.Get;
@@ -132,7 +132,7 @@ odyssey = row 4354 (value.Text (codes "Odyssey") ∷ value.Int (pos 2500) ∷ []
 abbrev pub loans : List PlainRow
 loans = row 4419 (value.Ref (Some 4290) ∷ value.Ref (Some 4161) ∷ []) ∷ []
 
--- what `/fill` stores: the first request makes the records 64 * (64 + place) + model
+-- What `/fill` stores. The first request makes the records 64 * (64 + place) + model.
 abbrev pub library_tables : List (List PlainRow)
 library_tables = users ∷ readers ∷ (emma ∷ odyssey ∷ []) ∷ loans ∷ []
 
@@ -142,7 +142,7 @@ empty_library = record { tables = [] ∷ [] ∷ [] ∷ [] ∷ []; number = 1 }
 abbrev pub library_state : PlainState
 library_state = record { tables = library_tables; number = 2 }
 
--- the library, asked by Ann
+-- The library, with Ann as the viewer.
 abbrev pub library : World
 library = record {
   models = library_models;
@@ -151,22 +151,22 @@ library = record {
   tables = library_tables;
 }
 
--- what an expression means there, with these names bound or with none
+-- The value of an expression in the library, with these bindings or with none.
 abbrev pub bound_there : List Binding → Expression → Value
 bound_there env e = mean library e env
 
 abbrev pub in_library : Expression → Value
 in_library e = mean library e []
 
--- the answers of a query there
+-- The answers of a query in the library.
 abbrev pub found_there : Question → List (List ℕ)
 found_there q = answers library q []
 
--- the name stands for the value
+-- Binds the name to the value.
 abbrev pub names_value : List ℕ → Value → Binding
 names_value x v = record { name = x; bound_to = v }
 
--- a request of Ann's of this number
+-- A request of Ann's with this number.
 abbrev pub asked_by_ann : ℕ → Setting
 asked_by_ann number = record {
   models = library_models;
@@ -179,15 +179,15 @@ asked_by_ann number = record {
 abbrev pub begun_with : List Binding → List (List PlainRow) → Run
 begun_with env tables = record { tables = tables; env = env; pieces = [] }
 
--- what statements leave of the library, in the second request
+-- What statements of the second request leave of the library.
 abbrev pub leaves_library : List Statement → Run
 leaves_library ss = leaves_all (asked_by_ann 2) (steps ss) (begun_with [] library_tables)
 
--- what they put on the page
+-- What these statements put on the page.
 abbrev pub puts : List Statement → List ℕ
 puts ss = body_of (leaves_library ss).pieces
 
--- the books that they leave
+-- The books after these statements.
 abbrev pub books_left : List Statement → List PlainRow
 books_left ss = rows_of (leaves_library ss).tables 2
 

@@ -6,15 +6,15 @@ use Rattle.jac_rows.specs.declared.row.Row.{Row}
 use Rattle.jac_rows.specs.declared.state.State.{State}
 use Rattle.jac_rows.specs.Good.{ModelShape}
 
--- a row without cells
+-- A row without cells.
 abbrev pub guarded_row : ℕ → List (ℕ × Bool) → Row
 guarded_row id guard = record { id = id; guard = guard; cells = [] }
 
--- towns have a name
+-- Towns have a name.
 abbrev pub town_shapes : List ModelShape
 town_shapes = record { kinds = kind.Text ∷ []; nested = false } ∷ []
 
--- a town whose name some are shown
+-- A town whose name is shown under its label only.
 abbrev pub towns : List Row
 towns = record { id = 4096; guard = (32768, true) ∷ []; cells = value.Text (codes "Rome") ∷ [] }
     ∷ record { id = 4096; guard = (32768, false) ∷ []; cells = value.Text [] ∷ [] } ∷ []

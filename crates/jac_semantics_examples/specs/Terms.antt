@@ -1,4 +1,4 @@
--- Short words for what an application says, in the order of docs/LANGUAGE.md.
+-- Short names for the parts of an application, in the order of docs/LANGUAGE.md.
 use Rattle.std.specs.Prelude.{ℕ, pos, neg_ℤ, Bool, List, [], ◌∷◌}
 use Rattle.jac_lang.specs.declared.expressions.Op.TheVariants as op
 use Rattle.jac_lang.specs.declared.field_kinds.Field.{Field}
@@ -50,7 +50,7 @@ parts (e ∷ es) = Expressions.more e (parts es)
 abbrev pub cat_of : List Expression → Expression
 cat_of es = Expression.cat (parts es)
 
--- a a_binder, and one alone
+-- A binder, and a list of one binder.
 abbrev pub a_binder : List ℕ → List ℕ → Binder
 a_binder x m = record { name = x; model = m }
 

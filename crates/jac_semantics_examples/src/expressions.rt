@@ -6,7 +6,7 @@ ghost use Rattle.jac_plain.specs.Expressions.{has_none, mean};
 ghost use Rattle.jac_semantics_examples.specs.Terms.{num, minus, word, truth, the, add, sub, mul, eq, lt, and_also, or_also, cat_of, a_binder, sole};
 ghost use Rattle.jac_semantics_examples.specs.Library.{library, in_library, bound_there, names_value, row, first_made};
 
-/// A literal is itself, and `(none M)` no reference.
+/// A literal is its own value. `(none M)` is no reference.
 pub fn reads_literals()
     ensures number { in_library (num 12) ≡ value.Int (pos 12) }
     ensures negative { in_library (minus 3) ≡ value.Int (negsuc 2) }
@@ -16,8 +16,9 @@ pub fn reads_literals()
     ensures no_reference { in_library (Expression.none_of (codes "Book")) ≡ value.Ref None }
 {}
 
-/// A name is what it is bound to, innermost first; `viewer` is who looks or none, and `this` the
-/// record whose policy is asked. The checker refuses a name that nothing binds, which counts as 0.
+/// A name has the value of its innermost binding. `viewer` is the viewer or none, and `this` is the
+/// record of the policy. The checker refuses a name that nothing binds. Such a name has the value
+/// 0.
 pub fn looks_up()
     ensures innermost { bound_there (names_value (codes "x") (value.Int (pos 1))
         ∷ names_value (codes "x") (value.Int (pos 2))
@@ -49,8 +50,8 @@ pub fn looks_up()
         ≡ value.Ref (Some 4161) }
 {}
 
-/// `(get M F e)` is field F of the record of M that e refers to, and the default of F's kind where
-/// there is none: for no reference, and for one to a record that isn't there.
+/// `(get M F e)` is field F of the record of M that e refers to. It is the default of F's kind if e
+/// is no reference, or if it refers to a record that doesn't exist.
 pub fn fetches()
     ensures name { in_library (Expression.get (codes "User") (codes "name") Expression.viewer)
         ≡ value.Text (codes "Ann") }
@@ -82,7 +83,7 @@ pub fn fetches()
         (Expression.get (codes "Town") (codes "name") Expression.viewer) ≡ value.Int (pos 0) }
 {}
 
-/// `(live e)` is true where e refers to a record that stands.
+/// `(live e)` is true if e refers to a record that exists.
 pub fn lives()
     ensures stands { in_library (Expression.live Expression.viewer) ≡ value.Bool true }
     ensures second { bound_there (names_value (codes "b") (value.Ref (Some 4354)) ∷ [])
@@ -108,8 +109,8 @@ pub fn computes()
     ensures unlike { in_library (add (word (codes "a")) (num 3)) ≡ value.Int (pos 3) }
 {}
 
-/// `eq` is true where both are one value, of whatever kind; one none equals another. `lt` compares
-/// two numbers by number and two texts by their bytes.
+/// `eq` is true if both values are the same, of whatever kind. None equals none. `lt` compares two
+/// numbers as numbers, and two texts by their bytes.
 pub fn compares()
     ensures same_number { in_library (eq (sub (num 5) (num 2)) (num 3)) ≡ value.Bool true }
     ensures other_number { in_library (eq (num 3) (num 4)) ≡ value.Bool false }
@@ -139,7 +140,7 @@ pub fn compares()
     ensures truths { in_library (lt (truth false) (truth true)) ≡ value.Bool false }
 {}
 
-/// `and`, `or` and `not`, by all cases.
+/// `and`, `or` and `not`, in all cases.
 pub fn reasons()
     ensures both { in_library (and_also (truth true) (truth true)) ≡ value.Bool true }
     ensures not_second { in_library (and_also (truth true) (truth false)) ≡ value.Bool false }
@@ -154,8 +155,8 @@ pub fn reasons()
     ensures unlike { in_library (or_also (truth false) (num 1)) ≡ value.Bool false }
 {}
 
-/// `cat` joins texts, and `str` is the text of a value: the decimal number, the text itself, `true`
-/// or `false`, the decimal id of a reference, or nothing for none.
+/// `cat` joins texts. `str` is the text of a value: the decimal number, the text itself, `true` or
+/// `false`, the decimal id of a reference, or nothing for none.
 pub fn joins()
     ensures joined { in_library (cat_of (word (codes "a") ∷ word (codes "b")
         ∷ word (codes "c") ∷ [])) ≡ value.Text (codes "abc") }
@@ -173,7 +174,7 @@ pub fn joins()
         ≡ value.Text [] }
 {}
 
-/// `(pick c a b)` is a where c is true, else b.
+/// `(pick c a b)` is a if c is true. If not, it is b.
 pub fn picks()
     ensures first { in_library (Expression.pick (truth true) (word (codes "y"))
         (word (codes "n"))) ≡ value.Text (codes "y") }
@@ -183,8 +184,9 @@ pub fn picks()
         (word (codes "n"))) ≡ value.Text (codes "n") }
 {}
 
-/// `count` tells how many answers there are, and `sum` adds the term over them in their order, each
-/// step to the nearest number of 64 bits. Of several binders, or none, both are no form, and 0.
+/// `count` is the number of answers. `sum` adds the term over the answers in their order, and each
+/// step gives the nearest number of 64 bits. With several binders, or none, neither is a valid
+/// form, and the value is 0.
 pub fn counts()
     ensures books { in_library (Expression.count (sole (codes "b") (codes "Book")) (truth true)
         orders.Key) ≡ value.Int (pos 2) }
@@ -233,8 +235,8 @@ pub fn counts()
         ≡ value.Int (pos 9223372036854775807) }
 {}
 
-/// `some` is true where the query has an answer, and `first` the record of the first a_binder in
-/// the first answer, or none.
+/// `some` is true if the query has an answer. `first` is the record of the first binder in the
+/// first answer, or none.
 pub fn finds()
     ensures some { in_library (Expression.any_of (sole (codes "b") (codes "Book")) (truth true)
         orders.Key) ≡ value.Bool true }

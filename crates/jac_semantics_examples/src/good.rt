@@ -9,8 +9,8 @@ ghost use Rattle.jac_semantics_examples.specs.Library.{row};
 ghost use Rattle.jac_semantics_examples.specs.Diary.{diary_app, diary_models, bare_diary, couple, diary_with, dentist, event_row};
 ghost use Rattle.jac_semantics_examples.specs.States.{guarded_row, town_shapes, towns, guarded_towns};
 
-/// The next number of a request is at least one and at most 2^40, and each record was made by a
-/// request before it, whose number isn't 0.
+/// The next number of a request is at least 1 and at most 2^40. Each record was made by an earlier
+/// request, whose number isn't 0.
 pub fn numbers_records()
     ensures first_next { IsNext 1 }
     ensures last_next { IsNext 1099511627776 }
@@ -27,8 +27,8 @@ pub fn numbers_records()
     ensures in_second { AreMadeBefore 2 (diary_with dentist).tables → ⊥ }
 {}
 
-/// A record has a cell for each field, of the field's kind, and an id that is wide where its model
-/// is nested. A model that isn't there has no records.
+/// A record has a cell for each field, of the field's kind. Its id is wide if its model is nested.
+/// A model that doesn't exist has no records.
 pub fn shapes_records()
     ensures fit { IsRecord (shapes_of diary_app) 0 2 4096 (value.Text (codes "Ann") ∷ []) }
     ensures other_kind { IsRecord (shapes_of diary_app) 0 2 4096 (value.Int (pos 1) ∷ []) → ⊥ }
@@ -40,8 +40,8 @@ pub fn shapes_records()
     ensures made { IsRecord (shapes_of diary_app) 0 1 4096 (value.Text (codes "Ann") ∷ []) → ⊥ }
 {}
 
-/// A plain table has each id once, rising; a guarded one may have alternatives of one record,
-/// which never hold together.
+/// In a plain table the ids rise, and each comes once. In a guarded table a record may have several
+/// alternatives, but no two of their guards are ever true together.
 pub fn orders_rows()
     ensures rising { ArePlainRows couple }
     ensures twice { ArePlainRows (row 4096 [] ∷ row 4096 [] ∷ []) → ⊥ }
@@ -53,8 +53,8 @@ pub fn orders_rows()
     ensures falling_guarded { AreRising (guarded_row 4160 [] ∷ guarded_row 4096 [] ∷ []) → ⊥ }
 {}
 
-/// A good state has a next number, and rows in order, each a record of its model. Of a sound one
-/// the cells may be of any kind.
+/// A good state has a next number, and its rows are in order. Each row is a record of its model. In
+/// a sound state the cells may have any kind.
 pub fn keeps_good_states()
     ensures good { IsGoodPlain (shapes_of diary_app) (diary_with dentist) }
     ensures no_next { IsGoodPlain [] (record { tables = []; number = 0 }) → ⊥ }
@@ -77,7 +77,7 @@ pub fn keeps_good_states()
     ensures unsound { IsSound (record guarded_towns { number = 1 }) → ⊥ }
 {}
 
-/// An application has flat tables where the ids of a nested model are wide, and no others.
+/// An application has flat tables if the ids of its nested models, and no others, are wide.
 pub fn flattens_tables()
     ensures flat { AreFlat diary_models bare_diary }
     ensures nested { AreFlat diary_models ([] ∷ (row 18446744073709563905 [] ∷ []) ∷ []) }

@@ -7,7 +7,8 @@ ghost use Rattle.jac_plain.specs.Policies.{has_id, has_record, has_group, labell
 ghost use Rattle.jac_semantics_examples.specs.Library.{row};
 ghost use Rattle.jac_semantics_examples.specs.Diary.{diary_app, diary_with, dentist, event_row, title_group, place_group, entry_group, entry_state};
 
-/// A label is eight times its record's id, and the place of its group among those of its model.
+/// A label is eight times its record's id, plus the place of its group among the groups of the
+/// model.
 pub fn names_groups()
     ensures first { labelled_group diary_app 65552 ≡ Some title_group }
     ensures second { labelled_group diary_app 65553 ≡ Some place_group }
@@ -20,7 +21,7 @@ pub fn names_groups()
     ensures lacks_any { has_group diary_app 32768 ≡ false }
 {}
 
-/// Which records stand, of which labels speak.
+/// Which records exist, and which records labels belong to.
 pub fn has_records()
     ensures first { has_id (diary_with dentist) 4096 ≡ true }
     ensures second { has_id (diary_with dentist) 4160 ≡ true }
@@ -32,9 +33,9 @@ pub fn has_records()
     ensures of_record_before { has_record (diary_with dentist) 65551 ≡ false }
 {}
 
-/// A label is allowed where its record stands, its group is there, and the group's policy is true
-/// of the record: an event's title is for its host, and for everybody where the event is open; its
-/// place is for whoever is known. Nobody is none.
+/// A label is allowed if its record and its group exist, and the group's policy is true for the
+/// record. An event's title is for its host, and for everybody if the event is open. Its place is
+/// for every viewer who is logged in. A viewer who isn't logged in is none.
 pub fn asks_policies()
     ensures host { is_allowed diary_app (diary_with dentist) (Some 4096) 65552 ≡ true }
     ensures guest { is_allowed diary_app (diary_with dentist) (Some 4160) 65552 ≡ false }
@@ -57,15 +58,16 @@ pub fn asks_policies()
     ensures no_owner { is_allowed diary_app (entry_state None) None 66072 ≡ false }
 {}
 
-/// An assignment with one label more shows that one, and what it showed.
+/// An assignment with one more label shows this label, and all that it showed before.
 pub fn adds_labels()
     ensures added { with_label 7 (shown_by (3 ∷ [])) 7 ≡ true }
     ensures old { with_label 7 (shown_by (3 ∷ [])) 3 ≡ true }
     ensures other { with_label 7 (shown_by (3 ∷ [])) 8 ≡ false }
 {}
 
-/// An assignment shows the rows whose guards hold, each label as its sign says, in their order;
-/// every one has the state's number. A model beyond the tables has no records.
+/// An assignment shows the rows with true guards, in their order. A label in a guard is shown or
+/// hidden, as its sign says. Every assignment shows the state's number. A model beyond the tables
+/// has no records.
 pub fn projects()
     ensures labelled { rows_at (shown_by (5 ∷ []))
         (record { id = 4096; guard = (5, true) ∷ []; cells = value.Int (pos 1) ∷ [] }

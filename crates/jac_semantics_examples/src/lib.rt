@@ -1,5 +1,5 @@
-//! Computed examples of what an application means: closed terms whose values are worked out by hand
-//! from `docs/LANGUAGE.md`. They are laws without a body, and no program calls them.
+//! Examples of the ordinary interpreter, worked out by hand from `docs/LANGUAGE.md`: laws without a
+//! body, which no program calls.
 #![tactic(auto)]
 
 mod expressions;

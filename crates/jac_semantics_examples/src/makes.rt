@@ -6,8 +6,7 @@ ghost use Rattle.jac_semantics_examples.specs.Terms.{truth, the, sole, asks, set
 ghost use Rattle.jac_semantics_examples.specs.Library.{begun_with, row};
 ghost use Rattle.jac_semantics_examples.specs.Diary.{asked_for, diary_models, couple, bare_diary, diary_with, dentist, make_dentist, make_entry, makes_event, makes_invite};
 
-/// A `create` asks that its request comes before the next number, and that no record of its id
-/// stands.
+/// A `create` needs a request number below the next number, and an id that no record has.
 pub fn asks_of_creates()
     ensures new { MayRun 3 (asked_for [] 2) make_dentist (begun_with [] bare_diary) }
     ensures late { MayRun 2 (asked_for [] 2) make_dentist (begun_with [] bare_diary) → ⊥ }
@@ -28,8 +27,8 @@ pub fn asks_of_creates()
         (begun_with [] bare_diary) }
 {}
 
-/// What stands after a `create`, or inside of it, is asked of what it leaves. Where its record is
-/// hidden it leaves none.
+/// A statement after a `create`, or inside it, is checked over the tables that the `create` leaves.
+/// If its record is hidden, the `create` leaves none.
 pub fn asks_behind_creates()
     ensures two_sites { MayRunAll 3 (asked_for [] 2) (steps (make_dentist ∷ makes_event 1 [] ∷ []))
         (begun_with [] bare_diary) }
@@ -48,8 +47,8 @@ pub fn asks_behind_creates()
         (begun_with [] bare_diary) }
 {}
 
-/// Of an `if` the side is asked that is run, in a `let` the name is bound, and a block is what
-/// stands in it.
+/// In an `if`, only the side that runs is checked. In a `let` the name is bound. A block is checked
+/// as the statements in it.
 pub fn asks_inside_statements()
     ensures first { MayRun 3 (asked_for [] 2) (Statement.branch (truth true)
         (steps (makes_event 1 [] ∷ [])) (steps (make_dentist ∷ [])))
@@ -66,8 +65,8 @@ pub fn asks_inside_statements()
         (begun_with [] (diary_with dentist).tables) → ⊥ }
 {}
 
-/// In a loop a record of a nested model is new around each of the loop's; one of another model is
-/// new once.
+/// In a loop, a record of a nested model is new around each record of the loop. A record of another
+/// model is new only once.
 pub fn asks_in_loops()
     ensures nested { MayRun 3 (asked_for [] 2) (Statement.each (asks (sole (codes "u")
         (codes "User")) (truth true) orders.Key) (steps (makes_invite ∷ [])))
@@ -83,7 +82,7 @@ pub fn asks_in_loops()
         (begun_with [] bare_diary) }
 {}
 
-/// A request finds none of the records that it may make: at no site, of no model, and around no
+/// None of the records that a request may make exists yet: for no site, of no model, and around no
 /// record.
 pub fn finds_no_records()
     ensures empty { AreAbsent diary_models 2 (0 ∷ 1 ∷ []) [] }

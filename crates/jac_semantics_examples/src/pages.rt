@@ -5,8 +5,8 @@ ghost use Rattle.jac_plain.specs.Requests.{location, page_of, page, after};
 ghost use Rattle.jac_semantics_examples.specs.Terms.{num, word};
 ghost use Rattle.jac_semantics_examples.specs.Library.{library_app, empty_library, library_state, leaves_library, names_value, visit_by_ann};
 
-/// A page has the status 404 where a `missing` was run, else 303 where a `redirect` was, else 200;
-/// the last redirect counts, and the view goes on after both.
+/// A page has the status 404 if a `missing` ran. If not, it has 303 if a `redirect` ran, and else
+/// 200. The last redirect counts, and the view goes on after both.
 pub fn settles_status()
     ensures plain { page_of (leaves_library (Statement.put (word (codes "a"))
         ∷ Statement.put (num 1) ∷ [])).pieces
@@ -31,14 +31,14 @@ pub fn settles_status()
         ≡ record { status = 303; location = Some []; body = [] } }
 {}
 
-/// In a location each byte that isn't visible ASCII is written `%HH`.
+/// In a location each byte that isn't visible ASCII is written as `%HH`.
 pub fn writes_locations()
     ensures ends { location (32 ∷ 33 ∷ 126 ∷ 127 ∷ []) ≡ codes "%20!~%7F" }
     ensures others { location (10 ∷ 195 ∷ 169 ∷ []) ≡ codes "%0A%C3%A9" }
 {}
 
-/// A request is answered by its view: with its parameters bound, for who asks, over what the state
-/// holds.
+/// A request is answered by its view, with its parameters bound, for its viewer, over what the
+/// state holds.
 pub fn answers_requests()
     ensures books { page (λ k. false) library_app library_state (visit_by_ann 1)
         ≡ record { status = 200; location = None; body = codes "2" } }
@@ -60,8 +60,8 @@ pub fn answers_requests()
         ≡ record { status = 200; location = None; body = [] } }
 {}
 
-/// The first request is the first number's: `/fill` leaves the library, whose ids are worked out by
-/// hand, and the next number. A `GET` leaves the state.
+/// The first request has the number 1. `/fill` leaves the library, whose ids are worked out by
+/// hand, and the next number. A `GET` leaves the state unchanged.
 pub fn leaves_states()
     ensures filled { after (λ k. false) library_app empty_library (visit_by_ann 0)
         ≡ library_state }

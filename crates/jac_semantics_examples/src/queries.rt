@@ -6,7 +6,8 @@ ghost use Rattle.jac_plain.specs.Expressions.{answers};
 ghost use Rattle.jac_semantics_examples.specs.Terms.{num, truth, the, eq, lt, and_also, a_binder, sole, asks};
 ghost use Rattle.jac_semantics_examples.specs.Library.{library, found_there, names_value, row};
 
-/// A query's answers are all tuples of records in nested order, the first a_binder outermost.
+/// If its condition is always true, a query's answers are all tuples of records, in nested order:
+/// the first binder is the outermost.
 pub fn crosses()
     ensures readers { found_there (asks (sole (codes "r") (codes "Reader")) (truth true) orders.Key)
         ≡ (4161 ∷ []) ∷ (4225 ∷ []) ∷ [] }
@@ -23,8 +24,9 @@ pub fn crosses()
         ≡ [] }
 {}
 
-/// They are those at which the condition is true. In it the binders' names are bound, the last
-/// innermost, and what is bound around it; another query may stand in it.
+/// The answers are the tuples at which the condition is true. In the condition the binders' names
+/// are bound, the last one innermost, and so are the names bound around the query. The condition
+/// may contain another query.
 pub fn selects()
     ensures cheap { found_there (asks (sole (codes "b") (codes "Book"))
         (lt (Expression.get (codes "Book") (codes "cents") (the (codes "b"))) (num 1000))
@@ -52,8 +54,8 @@ pub fn selects()
         (names_value (codes "b") (value.Ref None) ∷ []) ≡ (4290 ∷ []) ∷ (4354 ∷ []) ∷ [] }
 {}
 
-/// Answers that tie stand as under `key`, rising and falling, whichever binder's field they are
-/// ordered by.
+/// Answers that tie have the order that they have under `key`, whether the order rises or falls,
+/// and whichever binder's field they are sorted by.
 pub fn orders_ties()
     ensures falling { found_there (asks
         (a_binder (codes "r") (codes "Reader") ∷ a_binder (codes "b") (codes "Book") ∷ [])
@@ -69,8 +71,8 @@ pub fn orders_ties()
         ≡ (4225 ∷ 4290 ∷ []) ∷ (4225 ∷ 4354 ∷ []) ∷ (4161 ∷ 4290 ∷ []) ∷ (4161 ∷ 4354 ∷ []) ∷ [] }
 {}
 
-/// Numbers are ordered by number, texts by their bytes, and no reference before one, which stands
-/// by its id.
+/// Numbers are sorted as numbers, and texts by their bytes. No reference comes before a reference.
+/// References are sorted by their ids.
 pub fn orders_values()
     ensures texts { found_there (asks (sole (codes "r") (codes "Reader")) (truth true)
         (orders.Up (codes "r") (codes "name"))) ≡ (4225 ∷ []) ∷ (4161 ∷ []) ∷ [] }

@@ -3,7 +3,7 @@ ghost use Rattle.jac_plain.specs.Policies.{IsLiveLabel, AreAllowed, ShowsForbidd
 ghost use Rattle.jac_world.specs.World.{shown_by};
 ghost use Rattle.jac_semantics_examples.specs.Diary.{diary_app, guarded_diary};
 
-/// A label is live where its group is one of its model's, and its record stands somewhere.
+/// A label is live if its model has its group, and its record exists in some world.
 pub fn lists_live_labels()
     ensures title { IsLiveLabel diary_app guarded_diary 65552 }
     ensures place { IsLiveLabel diary_app guarded_diary 65553 }
@@ -14,7 +14,7 @@ pub fn lists_live_labels()
         → shown_by (65552 ∷ 65553 ∷ []) k ≡ true }
 {}
 
-/// Labels are allowed together, each in the world that they show.
+/// Labels are allowed together, each in the world that all of them show.
 pub fn allows_labels()
     ensures both { AreAllowed diary_app guarded_diary (Some 4096) (65552 ∷ 65553 ∷ []) }
     ensures none { AreAllowed diary_app guarded_diary None [] }
@@ -27,9 +27,9 @@ pub fn allows_labels()
         (shown_by (65552 ∷ 65553 ∷ [])) → ⊥ }
 {}
 
-/// What is settled for somebody: the host is shown both labels of her event, a guest the place's,
-/// and nobody none. Labels that don't rise, that lack one that may be added, that show one that
-/// isn't allowed or that isn't live are not settled.
+/// Which labels are settled for a viewer. The host is shown both labels of her event, a guest the
+/// place's label, and nobody none. Labels aren't settled if they don't rise, if a label is missing
+/// that can be added, or if a label isn't allowed or isn't live.
 pub fn settles_labels()
     ensures host { IsSettled diary_app guarded_diary (Some 4096) (65552 ∷ 65553 ∷ []) }
     ensures guest { IsSettled diary_app guarded_diary (Some 4160) (65553 ∷ []) }

@@ -11,7 +11,8 @@ ghost use Rattle.jac_semantics_examples.specs.Library.{library_app, library_mode
 ghost use Rattle.jac_semantics_examples.specs.Diary.{diary_app, diary_models};
 ghost use Rattle.jac_semantics_examples.specs.Kept.{all_forms, inside_others, siting};
 
-/// A `create`, an `update` or a `delete` writes, wherever it stands, and no other statement does.
+/// A `create`, an `update` or a `delete` writes, even inside other statements. No other statement
+/// writes.
 pub fn tells_writes()
     ensures forms { map is_reading all_forms
         ≡ true ∷ true ∷ true ∷ true ∷ true ∷ true ∷ false ∷ false ∷ false ∷ true ∷ true ∷ true
@@ -27,7 +28,7 @@ pub fn tells_writes()
         ∷ Statement.delete (codes "Book") (num 1) ∷ [])) ≡ false }
 {}
 
-/// A view has 64 places for creates.
+/// A view has 64 sites for creates.
 pub fn counts_sites()
     ensures last { are_sited (steps (siting 63 ∷ [])) ≡ true }
     ensures beyond { are_sited (steps (siting 64 ∷ [])) ≡ false }
@@ -46,7 +47,7 @@ pub fn counts_sites()
     ensures not_among { is_among 3 (1 ∷ 2 ∷ []) ≡ false }
 {}
 
-/// What models say: the kinds of their fields, which are nested, and which have groups.
+/// The shapes of models: the kinds of their fields, which models are nested, and which have groups.
 pub fn shapes_models()
     ensures library { shapes_of library_app
         ≡ record { kinds = kind.Text ∷ []; nested = false }
@@ -66,8 +67,8 @@ pub fn shapes_models()
     ensures wide { is_shaped false 18446744073709563905 ≡ false }
 {}
 
-/// One cell for each field, of the field's kind; a reference is one to its model's records, or
-/// none.
+/// There is one cell for each field, of the field's kind. A reference refers to a record of its
+/// model, or it is none.
 pub fn fits_cells()
     ensures fit { have_kinds (kind.Text ∷ kind.Int ∷ kind.Bool ∷ kind.Ref 2 ∷ [])
         (value.Text (codes "a") ∷ value.Int (pos 1) ∷ value.Bool true ∷ value.Ref (Some 4290) ∷ [])

@@ -7,7 +7,7 @@ ghost use Rattle.jac_plain.specs.Requests.{body_of};
 ghost use Rattle.jac_semantics_examples.specs.Terms.{num, minus, word, truth, the, add, mul, lt, a_binder, sole, asks, steps};
 ghost use Rattle.jac_semantics_examples.specs.Library.{library_tables, asked_by_ann, begun_with, leaves_library, puts, names_value, first_made};
 
-/// `put` adds the text of a value to the page, one after another.
+/// Each `put` adds the text of a value to the page.
 pub fn puts_texts()
     ensures number { puts (Statement.put (add (num 2) (num 3)) ∷ []) ≡ codes "5" }
     ensures negative { puts (Statement.put (minus 3) ∷ []) ≡ codes "-3" }
@@ -19,8 +19,8 @@ pub fn puts_texts()
     ensures template { puts (Statement.template (codes "a") ∷ []) ≡ [] }
 {}
 
-/// `esc` adds the text of a value as HTML shows it: `&`, `<`, `>`, `"` and `'` are escaped, and no
-/// other byte.
+/// `esc` adds the text of a value as HTML: `&`, `<`, `>`, `"` and `'` are escaped, and no other
+/// byte.
 pub fn escapes()
     ensures angles { puts (Statement.escape (word (codes "<b>")) ∷ []) ≡ codes "&lt;b&gt;" }
     ensures all { puts (Statement.escape (word (codes "&<>\"'")) ∷ [])
@@ -30,7 +30,7 @@ pub fn escapes()
     ensures number { puts (Statement.escape (num 12) ∷ []) ≡ codes "12" }
 {}
 
-/// `let` binds a name for its statements alone, and an inner one goes before an outer one.
+/// `let` binds a name for its own statements only. An inner binding hides an outer one.
 pub fn scopes()
     ensures squared { puts (Statement.bind (codes "x") (num 2)
         (steps (Statement.put (mul (the (codes "x")) (the (codes "x"))) ∷ [])) ∷ [])
@@ -46,7 +46,7 @@ pub fn scopes()
         ≡ names_value (codes "y") (value.Int (pos 7)) ∷ [] }
 {}
 
-/// `assign` changes the innermost binding of the name, also that of a `let` around.
+/// `assign` changes the innermost binding of the name, even the binding of an outer `let`.
 pub fn assigns()
     ensures counted { puts (Statement.bind (codes "x") (num 2)
         (steps (Statement.assign (codes "x") (add (the (codes "x")) (num 1))
@@ -68,7 +68,7 @@ pub fn assigns()
         ∷ names_value (codes "y") (value.Int (pos 3)) ∷ [] }
 {}
 
-/// `if` runs its first statements where the condition is true, else the second.
+/// `if` runs its first statements if the condition is true. If not, it runs the second.
 pub fn branches()
     ensures less { puts (Statement.branch (lt (num 1) (num 2))
         (steps (Statement.put (word (codes "less")) ∷ []))
@@ -82,7 +82,8 @@ pub fn branches()
 {}
 
 /// `for` runs its statements for each answer, in the query's order, with the names bound to its
-/// records; the answers are taken once, before the first statement, and the names are gone after.
+/// records. The answers are computed once, before the first statement. The names are gone
+/// afterwards.
 pub fn loops()
     ensures by_key { puts (Statement.each (asks (sole (codes "b") (codes "Book")) (truth true)
         orders.Key) (steps (Statement.put (Expression.get (codes "Book") (codes "title")

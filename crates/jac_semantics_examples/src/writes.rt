@@ -10,9 +10,9 @@ ghost use Rattle.jac_semantics_examples.specs.Terms.{num, word, truth, the, eq, 
 ghost use Rattle.jac_semantics_examples.specs.Library.{library_tables, emma, odyssey, row, asked_by_ann, begun_with, leaves_library, puts, books_left, names_value, first_made};
 ghost use Rattle.jac_semantics_examples.specs.Diary.{bare_diary, couple, event_row, dentist, diary_with, events_left, leaves_diary, diary_puts, make_dentist, make_entry, numbered_models};
 
-/// `create` makes a record whose id is (number · 64 + place) · 64 + the place of its model, in the
-/// order of ids; a field that isn't named has its kind's default, and the name is bound for the
-/// statements inside alone.
+/// `create` makes a record with the id (number · 64 + site) · 64 + the place of its model. The rows
+/// keep the order of ids. A field that isn't set has the default of its kind. The name is bound
+/// only for the statements inside.
 pub fn creates()
     ensures shown { puts (Statement.create (codes "b") (codes "Book") 0
         (sets (codes "title") (word (codes "Iliad")) ∷ [])
@@ -48,8 +48,8 @@ pub fn creates()
         (steps (Statement.put (num 1) ∷ [])) ∷ []) ≡ begun_with [] library_tables }
 {}
 
-/// `update` sets the named fields of the record, and no other; nothing where it isn't there. All
-/// expressions are read before anything changes.
+/// `update` sets the named fields of the record, and no others. If there is no such record, it does
+/// nothing. All expressions are read before anything changes.
 pub fn updates()
     ensures shown { puts (Statement.bind (codes "b") (first_made (codes "Book"))
         (steps (Statement.update (codes "Book") (the (codes "b"))
@@ -82,7 +82,7 @@ pub fn updates()
         ≡ event_row (codes "clinic") (Some 4096) false (codes "dentist") ∷ [] }
 {}
 
-/// `delete` takes the record away; nothing where it isn't there.
+/// `delete` removes the record. If there is no such record, it does nothing.
 pub fn deletes()
     ensures shown { puts (Statement.bind (codes "b") (first_made (codes "Book"))
         (steps (Statement.delete (codes "Book") (the (codes "b"))
@@ -102,9 +102,9 @@ pub fn deletes()
         (first_made (codes "Book")) ∷ []) ≡ begun_with [] library_tables }
 {}
 
-/// A `create` and an `update` store the public value of a guarded field where its label isn't
-/// shown, which is that of the record as the statement leaves it; an `update` those that it names
-/// alone.
+/// If the label of a guarded field isn't shown, a `create` and an `update` store the field's public
+/// value, which is computed from the record that the statement would leave. An `update` does this
+/// only for the fields that it names.
 pub fn guards_fields()
     ensures hidden { events_left [] (make_dentist ∷ []) bare_diary
         ≡ event_row (codes "private") (Some 4096) false (codes "with 4096") ∷ [] }
@@ -140,8 +140,8 @@ pub fn guards_fields()
         (value.Text (codes "hm") ∷ []) ≡ value.Text (codes "4096") ∷ [] }
 {}
 
-/// A record of a model with a group that hides is made where its label is shown; the name that its
-/// `create` binds is the reference to it for everybody.
+/// A record of a model with a group that hides it is made only if its label is shown. For
+/// everybody, its `create` binds the name to the reference to it.
 pub fn hides_records()
     ensures hidden { (leaves_diary [] 2 (make_entry ∷ [])).tables ≡ bare_diary }
     ensures shown { (leaves_diary (66072 ∷ []) 2 (make_entry ∷ [])).tables
@@ -150,8 +150,9 @@ pub fn hides_records()
     ensures named { diary_puts 2 (make_entry ∷ []) ≡ codes "8259" }
 {}
 
-/// In a loop over one a_binder a record of a nested model is made around the loop's record, whose
-/// id is times 2^52 in its own; elsewhere, and around a record that was made so itself, it isn't.
+/// In a loop over one binder, a record of a nested model is made around the loop's record: that
+/// record's id times 2^52 is added to its id. Outside such a loop, or if the loop's record was
+/// itself made so, its id is an ordinary one.
 pub fn makes_in_loops()
     ensures around { diary_puts 3 (Statement.each (asks (sole (codes "u") (codes "User"))
         (truth true) orders.Key) (steps (Statement.create (codes "i") (codes "Invite") 0

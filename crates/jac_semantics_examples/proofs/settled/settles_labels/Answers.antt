@@ -14,7 +14,7 @@ returns-clause-guest c = guest_settled
 pub returns-clause-nobody : goal.returns-clause-nobody
 returns-clause-nobody c = nobody_settled
 
--- one more may be added
+-- One more label can be added.
 pub returns-clause-lacking : goal.returns-clause-lacking
 returns-clause-lacking c s =
     let f = s.full 65553 place_lives refl in
