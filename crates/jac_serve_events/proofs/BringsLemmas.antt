@@ -14,7 +14,7 @@ use Rattle.jac_serve_events.specs.Log.{event_text, Brings}
 use Rattle.jac_serve_events.specs.Script.{opened_by}
 use Rattle.jac_serve_events.specs.Serve.{is_connection_open}
 
--- one more event
+-- One more event.
 pub brings-push : (x : AnswerSpec) (events : List Event) (known later : Connections Ask) (n : ℕ) (log mine : List LogEntry) (text : List ℕ) (event : Event)
     → Brings x known n events log text later → IsBroughtBy (hearing x) (n + length events) event later mine
     → Brings x known n (events ++ event ∷ []) (log ++ mine) (text ++ event_text x event later mine) (after_both (hearing x) event mine later)
@@ -41,7 +41,7 @@ brings-push x (first ∷ events) known later n log mine text event (front, other
       (subst (λ (j : ℕ). IsBroughtBy (hearing x) j event later mine) (omega arith) brought),
 )
 
--- the log is what is heard
+-- The log is what the events bring.
 pub brings-heard : (x : AnswerSpec) (events : List Event) (known later : Connections Ask) (n : ℕ) (log : List LogEntry) (text : List ℕ)
     → Brings x known n events log text later → IsHeardFrom (hearing x) known n events log
 brings-heard x [] known later n log text (no_log, no_text, same) = no_log
@@ -66,7 +66,7 @@ part_none : (h : Hearing Ask Answer) (known : Connections Ask) (n : ℕ) (events
 part_none h known n [] = refl
 part_none h known n (event ∷ events) = inl (begun_none h n event known)
 
--- the log of the first events is the first of what all bring
+-- The log of the first events is the beginning of what all events bring.
 pub brings-part : (x : AnswerSpec) (events more : List Event) (known later : Connections Ask) (n : ℕ) (log : List LogEntry) (text : List ℕ)
     → Brings x known n events log text later → IsHeardInPartFrom (hearing x) known n (events ++ more) log
 brings-part x [] more known later n log text (no_log, no_text, same) =
@@ -74,7 +74,7 @@ brings-part x [] more known later n log text (no_log, no_text, same) =
 brings-part x (first ∷ events) more known later n log text (front, others, rest, parts, texts, brought, after) =
     inr (front, others, parts, brought, brings-part x events more (after_both (hearing x) first front known) later (n + 1) others rest after)
 
--- so is it with the first entries of the event after them
+-- So is that log with the first entries of the next event.
 pub brings-begun : (x : AnswerSpec) (events more : List Event) (event : Event) (known later : Connections Ask) (n : ℕ) (log mine : List LogEntry) (text : List ℕ)
     → Brings x known n events log text later → IsBegunBy (hearing x) (n + length events) event later mine
     → IsHeardInPartFrom (hearing x) known n (events ++ event ∷ more) (log ++ mine)
@@ -92,7 +92,7 @@ brings-begun x (first ∷ events) more event known later n log mine text (front,
           (subst (λ (j : ℕ). IsBegunBy (hearing x) j event later mine) (omega arith) begun),
     )
 
--- which connections are open is told by the events alone
+-- Which connections are open depends on the events alone.
 is_some-map : {X : Type 0} (f : X → X) (o : Option X) → is_some (option_map f o) ≡ is_some o
 is_some-map f None = refl
 is_some-map f (Some x) = refl
@@ -104,7 +104,7 @@ set_by known o d false = refl
 open_set : (known : Connections Ask) (c d : ℕ) (o : Option (Connection Ask)) → is_connection_open (set_at c o known) d ≡ (if d == c then is_some o else is_connection_open known d)
 open_set known c d o = set_by known o d (d == c)
 
--- with what is open already it stays as it was
+-- If the new value is open exactly if the old one is, nothing changes.
 kept_by : (b x y : Bool) → (b ≡ true → x ≡ y) → (if b then x else y) ≡ y
 kept_by true x y h = h refl
 kept_by false x y h = refl

@@ -1,4 +1,4 @@
--- A dispatcher after one call and another.
+-- A dispatcher over two calls in a row.
 use Rattle.std.proofs.Common.{◌≡◌, ◌∙◌, sym, subst, refl, ℕ, IsTrue, Option, Result, List}
 use Rattle.jac_events.specs.declared.event.Event.{Event}
 use Rattle.jac_keep.specs.KeeperSeen.{Store}
@@ -32,15 +32,15 @@ module _ {O : Type 0} (answer_spec : O → AnswerSpec) where
     settled = subst (λ (o : O). (answer_spec o).settled c.run_seen.keeper c.run_seen.viewer_caches) one.same two.settled;
   }
 
-  -- what holds of whom a dispatcher is, of whom it was
+  -- What holds for the dispatcher's `of` after a call holds for that before it.
   pub keeps-of : (a b : DispatcherSeen O) (P : AnswerSpec → Type 0) → KeepsDispatcher answer_spec a b → P (answer_spec b.of) → P (answer_spec a.of)
   keeps-of a b P keeps h = subst (λ (o : O). P (answer_spec o)) keeps.same h
 
-  -- and what holds of whom it was, of whom it is
+  -- What holds for it before a call holds after it.
   pub of-keeps : (a b : DispatcherSeen O) (P : AnswerSpec → Type 0) → KeepsDispatcher answer_spec a b → P (answer_spec a.of) → P (answer_spec b.of)
   of-keeps a b P keeps h = subst (λ (o : O). P (answer_spec o)) (sym keeps.same) h
 
-  -- what it gave as it was asked to spell it
+  -- What the dispatcher gave in the spelling that was asked for.
   pub next-of : (a b : DispatcherSeen O) (told spelling : Spelling) (hub new : HubSeen) (result : Option HubOut) (before after : RunSeen) → KeepsDispatcher answer_spec a b → told ≡ spelling
       → Nexts IsTaken (Handles told (answer_spec b.of)) hub hub.turn result new before after → Nexts IsTaken (Handles spelling (answer_spec a.of)) hub hub.turn result new before after
   next-of a b told spelling hub new result before after keeps same h =

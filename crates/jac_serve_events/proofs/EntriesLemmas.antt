@@ -19,6 +19,6 @@ audited-append k (x ∷ xs) ys =
     (audited-append (k + 1) xs ys ∙ ap (λ (n : ℕ). audited_from (k + 1) xs ++ audited_from n ys) (omega arith))
     ∙ sym (append_assoc (audit_line k x) (audited_from (k + 1) xs) (audited_from (k + length (x ∷ xs)) ys))
 
--- the keeper wasn't called
+-- The last step didn't change the run.
 pub entries-still : (x : AnswerSpec) (a b c : RunSeen) (log : List LogEntry) → x.entries (span a b) log → c ≡ b → x.entries (span a c) log
 entries-still x a b c log entries still = subst (λ (k : RunSeen). x.entries (span a k) log) (sym still) entries

@@ -1,4 +1,4 @@
--- An event, as a hub takes it and as its entries are put.
+-- An event that a hub takes, and the lines of its entries.
 use Rattle.std.proofs.Common.{◌≡◌, ◌∙◌, ap, sym, subst, refl, inl, inr, ℕ, zero, suc, ◌+◌, ◌-◌, ◌≤◌, ◌^◌, ◌&&◌, ◌⊎◌, not, Bool, true, false, is_some, Option, Some, None, Result, Ok, Err, List, [], ◌∷◌, ◌++◌, length, take, drop, append-nil, length-append, if◌then◌else◌, decimal, arith}
 use Rattle.jac_serve_events.specs.RunSeen.{RunSeen}
 use Rattle.jac_replies.specs.Failed.{status_of_stop}
@@ -79,7 +79,7 @@ finish_refused h line c None (Some k) fault event_fault old new like e is = absu
 finish_refused h line c (Some o) None fault event_fault old new like e is = absurd like
 finish_refused h line c (Some o) (Some k) fault event_fault old new like e is = by_ok _ fault e.0
 
--- a hub refuses an event where the definition does
+-- A hub refuses an event only if the definition does.
 step_refused : (h : Hearing Ask Answer) (line : ℕ) (event : Event) (known : Connections Ask) (fault : HubFault) (event_fault : EventFault) (old new : HubSeen)
     → AreLike h old.channels known → Steps old event (Err fault) new → event_fault_by line fault ≡ Some event_fault → event_fault_of line (is_connection_open known) event ≡ Some event_fault
 step_refused h line (Asking viewer method path query body) known fault event_fault old new like steps is = absurd steps
@@ -87,7 +87,7 @@ step_refused h line (Begin c) known fault event_fault old new like steps is = be
 step_refused h line (Piece c bytes) known fault event_fault old new like steps is = piece_refused h line c bytes (old.channels c) (known c) fault event_fault old new (like c) steps is
 step_refused h line (Finish c) known fault event_fault old new like steps is = finish_refused h line c (old.channels c) (known c) fault event_fault old new (like c) steps is
 
--- it was taken, or memory ran out
+-- The event was taken, or memory ran out.
 abbrev pub IsKept : Result (Unit {0}) HubFault → Type 0
 IsKept taken = (taken ≡ Ok tt) ⊎ (taken ≡ Err faults.Memory)
 
@@ -122,7 +122,7 @@ finish_kept h line c None (Some k) taken old new like e kept = absurd like
 finish_kept h line c (Some o) None taken old new like e kept = absurd like
 finish_kept h line c (Some o) (Some k) taken old new like e kept = refl
 
--- a hub takes an event only where the definition does
+-- A hub takes an event only if the definition does.
 pub step_kept : (h : Hearing Ask Answer) (line : ℕ) (event : Event) (known : Connections Ask) (taken : Result (Unit {0}) HubFault) (old new : HubSeen)
     → AreLike h old.channels known → Steps old event taken new → IsKept taken → event_fault_of line (is_connection_open known) event ≡ None
 step_kept h line (Asking viewer method path query body) known taken old new like steps kept = absurd steps
@@ -130,7 +130,7 @@ step_kept h line (Begin c) known taken old new like steps kept = begin_kept h li
 step_kept h line (Piece c bytes) known taken old new like steps kept = piece_kept h line c bytes (old.channels c) (known c) taken old new (like c) steps kept
 step_kept h line (Finish c) known taken old new like steps kept = finish_kept h line c (old.channels c) (known c) taken old new (like c) steps kept
 
--- why an event isn't taken
+-- Why an event wasn't taken.
 pub stopped_answers : (x : AnswerSpec) (old new : HubSeen) (k : RunSeen) (served line : ℕ) (event : Event) (stopped : ReplayError) (s : Sinks)
     → TakesEvent line old event (Err stopped) new → AnswersEvent x old new (span k k) served line event (Err stopped) s [] []
 stopped_answers x old new k served line event (stops.Refused event_fault) s h =
@@ -209,7 +209,7 @@ finish_left : (h : Hearing Ask Answer) (c : ℕ) (o : Option ChannelSeen) (taken
 finish_left h c None taken old new idle e = left_same old new e.1 idle
 finish_left h c (Some o) taken old new idle e = left_as new 0 _ e.1 (omega arith)
 
--- how much an event may bring at most
+-- The most that an event may bring.
 pub step_left : (h : Hearing Ask Answer) (event : Event) (known : Connections Ask) (taken : Result (Unit {0}) HubFault) (old new : HubSeen)
     → old.turn ≡ turns.Idle → AreLike h old.channels known → Steps old event taken new → puts_left new ≤ 2 ^ 26
 step_left h (Asking viewer method path query body) known taken old new idle like steps = absurd steps
@@ -217,7 +217,7 @@ step_left h (Begin c) known taken old new idle like steps = begin_left h c (old.
 step_left h (Piece c bytes) known taken old new idle like steps = piece_left h c bytes (old.channels c) (known c) taken old new idle (like c) steps
 step_left h (Finish c) known taken old new idle like steps = finish_left h c (old.channels c) taken old new idle steps
 
--- what tells that a connection was closed is one line or none
+-- That a connection was closed is put out as one line, or not at all.
 record IsClosingOut (event : Event) (before after : Connections Ask) (c : ℕ) : Type 0 where
   out : closings event before after ≡ Closed c ∷ []
   text : closing_text event before after ≡ closed_text c
@@ -257,7 +257,7 @@ out_faulted : (spelling : Spelling) (k : ℕ) (lost : FailedSink) (given : HubOu
 out_faulted spelling k lost (Reply c sent) s out audit h = h.fault
 out_faulted spelling k lost (Closed c) s out audit h = subst (λ (l : FailedSink). FaultedAt l s) (sym h.1) h.4
 
--- what was lost, by what the hub gave
+-- What was lost, by what the hub gave.
 module _ (spelling : Spelling) (x : AnswerSpec) (lawful : IsAnswerSpec x) (n served : ℕ) (event : Event) (known : Connections Ask) (a b : RunSeen) (mine : List LogEntry) (replies outs : List HubOut) (last : HubOut)
     (cut : WriteFailure) (s : Sinks) (out audit out_torn audit_torn : List ℕ) (start : x.ready a)
     (answered : AreEntriesAnswered (hearing x) (IsHandled spelling x) (refusal 500 None) a mine replies b)
@@ -315,7 +315,7 @@ module _ (spelling : Spelling) (x : AnswerSpec) (lawful : IsAnswerSpec x) (n ser
   torn_by (inl parts) = inl (by_reply (sym parts))
   torn_by (inr h) = by_closing h.0 h.1 (closing_shape event known (after_both (hearing x) event mine known))
 
--- a put failed while an event was served
+-- A put failed while an event was served.
 pub event_cut : (spelling : Spelling) (x : AnswerSpec) (lawful : IsAnswerSpec x) → IsReading IsTaken → (n served : ℕ) (event : Event) (known : Connections Ask) (taken : Result (Unit {0}) HubFault)
     (old stepped : HubSeen) (a b : RunSeen) (cut : WriteFailure) (s : Sinks) (out audit : List ℕ)
     → old.turn ≡ turns.Idle → AreLike (hearing x) old.channels known → Steps old event taken stepped → x.ready a
@@ -332,7 +332,7 @@ event_cut spelling x lawful law n served event known taken old stepped a b cut s
       torn = torn_by spelling x lawful n served event known a b s.mine s.replies p.outs p.last cut sinks out audit p.out_torn p.audit_torn start s.answered p.torn p.count_is p.out_text p.audit_text s.put;
     }
 
--- the lines of what a dispatcher made of a request
+-- The lines for the outcome of a request.
 pub asked_told : (x : AnswerSpec) (k : Span RunSeen) (ask : Ask) (made : AskOutcome) → IsAsked x k ask made
     → (answer : Answer) × x.entry k (whole ask false) answer × (asked_line ask.method made ≡ reply_to asked (whole ask false) answer)
     × ((n : ℕ) → asked_audit n made ≡ audit_text n answer.status ask.viewer answer.shown answer.consulted)
@@ -343,7 +343,7 @@ asked_told x k ask (Unanswered stop viewer) (entry, viewer_is) =
 abbrev pub ask_entry : ℕ → Ask → Answer → LogEntry
 ask_entry n ask answer = record { place = n; source = asked; subject = whole ask false; answer = answer }
 
--- the request of an `ask` line was served
+-- The request of an `ask` line was served.
 pub ask_served : (x : AnswerSpec) (lawful : IsAnswerSpec x) (hub : HubSeen) (a b : RunSeen) (served n : ℕ) (viewer : Option ℕ) (method path query body : List ℕ) (s : Sinks) (out audit : List ℕ) (known : Connections Ask) (made : AskOutcome)
     → hub.turn ≡ turns.Idle → AreLike (hearing x) hub.channels known
     → IsAsked x (span a b) (x.asks viewer method path query body) made

@@ -1,4 +1,4 @@
--- What a hub gives, as entries of a log and their lines.
+-- What a hub gives: the entries of a log and their lines.
 use Rattle.std.proofs.Common.{◌≡◌, ◌∙◌, ap, sym, subst, refl, ℕ, ◌+◌, ◌&&◌, ◌||◌, not, Bool, true, false, None, Result, List, [], ◌∷◌, ◌++◌, length, append_assoc, append-nil, if◌then◌else◌, arith}
 use Rattle.jac_serve_events.specs.RunSeen.{RunSeen}
 use Rattle.jac_replies.specs.Refused.{refusal}
@@ -36,18 +36,18 @@ agrees : (spelling : Spelling) (x : AnswerSpec) (before after : RunSeen) (c : �
 agrees spelling x before after c (HeardWhole request) sent answer h = h.closing
 agrees spelling x before after c (HeardRefused status) sent answer h = tt
 
--- what is handled is told with its answer
+-- What is handled has an answer that agrees with it.
 pub handled-tells : (spelling : Spelling) (x : AnswerSpec) → Tells (hearing x) (Handles spelling x) (IsHandled spelling x)
 handled-tells spelling x = λ before after c heard sent h. (h.0, h.1, agrees spelling x before after c heard sent h.0 h.1)
 
--- what is put for entries, and what they leave
+-- What is put for entries, and the state that they leave.
 pub record AreLines (spelling : Spelling) (x : AnswerSpec) (k : Span RunSeen) (mine : List LogEntry) (outs : List HubOut) : Type 0 where
   pub entries : x.entries k mine
   pub text : outs_on spelling outs ≡ replies_on spelling mine
   pub audited : (n : ℕ) → outs_audited n outs ≡ audited_from n mine
   pub replies : replies_in outs ≡ length mine
 
--- the reply to one subject of a connection
+-- The reply to one subject of a connection.
 pub record IsLine (spelling : Spelling) (x : AnswerSpec) (c : ℕ) (k : Span RunSeen) (subject : LogSubject) (answer : Answer) (sent : Sent) : Type 0 where
   pub one : x.entry k subject answer
   pub line : sent_on spelling c sent ≡ reply_on spelling (connection c) subject answer
@@ -83,7 +83,7 @@ lines_more spelling x lawful c entry sent mine rest before between after is line
       replies = let r = more.replies in omega (arith, r);
     }
 
--- the entries of an event beside the replies that were put out for them
+-- The entries of an event agree with the replies that were put out for them.
 pub lines_all : (spelling : Spelling) (x : AnswerSpec) (lawful : IsAnswerSpec x) (mine : List LogEntry) (outs : List HubOut) (before after : RunSeen)
     → x.ready before
     → AreEntriesAnswered (hearing x) (IsHandled spelling x) (refusal 500 None) before mine outs after → AreLines spelling x (span before after) mine outs
@@ -114,7 +114,7 @@ replies_in-append [] ys = omega arith
 replies_in-append (Reply c sent ∷ xs) ys = omega (arith, replies_in-append xs ys)
 replies_in-append (Closed c ∷ xs) ys = replies_in-append xs ys
 
--- what tells that a connection was closed has its line in a text, and no other
+-- The line that says that a connection was closed is in a text, and no other line is.
 closed_outs : (c : ℕ) (closed : Bool) → outs_on spellings.Quoted (closing c closed) ≡ (if closed then closed_text c else [])
 closed_outs c true = append-nil (closed_text c)
 closed_outs c false = refl
@@ -143,7 +143,7 @@ pub has_closed-append : (xs ys : List HubOut) → has_closed (xs ++ ys) ≡ (has
 has_closed-append [] ys = refl
 has_closed-append (x ∷ xs) ys = ap (λ (b : Bool). is_closed_out x || b) (has_closed-append xs ys) ∙ sym (or_assoc (is_closed_out x) (has_closed xs) (has_closed ys))
 
--- the replies to entries tell no closing
+-- The replies to entries don't say that a connection was closed.
 answered_open : (spelling : Spelling) (x : AnswerSpec) (mine : List LogEntry) (outs : List HubOut) (before after : RunSeen)
     → AreEntriesAnswered (hearing x) (IsHandled spelling x) (refusal 500 None) before mine outs after → has_closed outs ≡ false
 answered_open spelling x [] outs before after (none, same) = ap has_closed none
@@ -153,7 +153,7 @@ answered_open spelling x (entry ∷ mine) outs before after (c, sent, rest, betw
 right_none : (m : ℕ) → m + 0 ≡ m
 right_none m = omega arith
 
--- all that a hub gave for an event was put: the event was served
+-- If all that a hub gave for an event was put, the event was served.
 pub event_whole : (spelling : Spelling) (x : AnswerSpec) (lawful : IsAnswerSpec x) → IsReading IsTaken → (n served : ℕ) (brought : EventOutcome) (event : Event) (known : Connections Ask) (taken : Result (Unit {0}) HubFault)
     (old stepped new : HubSeen) (a b : RunSeen) (out audit : List ℕ)
     → old.turn ≡ Idle → AreLike (hearing x) old.channels known → Steps old event taken stepped → (IsLost event taken → ⊥) → x.ready a
@@ -194,7 +194,7 @@ no_entries : (mine : List LogEntry) → length mine ≡ 0 → mine ≡ []
 no_entries [] e = refl
 no_entries (entry ∷ mine) e = absurd cc
 
--- the entries beside the first of the replies
+-- The last entry is that of the lost reply, and the lines of the others were put.
 pub record IsCut (spelling : Spelling) (mine : List LogEntry) (outs : List HubOut) (last : HubOut) : Type 0 where
   pub whole_ones : List LogEntry
   pub entry : LogEntry
@@ -214,7 +214,7 @@ head_same x y xs ys e = cc
 tail_same : (x y : HubOut) (xs ys : List HubOut) → x ∷ xs ≡ y ∷ ys → xs ≡ ys
 tail_same x y xs ys e = cc
 
--- replies that end with the torn one
+-- Replies that end with the torn one.
 pub cut_last : (spelling : Spelling) (x : AnswerSpec) (lawful : IsAnswerSpec x) (mine : List LogEntry) (replies outs : List HubOut) (last : HubOut) (before after : RunSeen)
     → x.ready before
     → AreEntriesAnswered (hearing x) (IsHandled spelling x) (refusal 500 None) before mine replies after → replies ≡ outs ++ last ∷ []

@@ -24,7 +24,7 @@ use Rattle.jac_serve_events.specs.Serve.{Handles, sent_on, sent_audit, closed_on
 use Rattle.jac_serve_events.proofs.HubLemmas.{outs_on-append, outs_audited-append, replies_in-append, has_closed-append}
 use Rattle.jac_serve_events.proofs.OutsideLemmas.{FailsWithin, faulted_within}
 
--- a call of a hub calls its handler once, or not at all
+-- A call of a hub calls its handler at most once.
 module _ {H : Type 0} (reads : List ℕ → Taken → Type 0) (before after : H) (handles : H → ℕ → Heard → Sent → H → Type 0) where
   front_either : (P : Type 0) → (after ≡ before → P) → ((c : ℕ) (heard : Heard) (sent : Sent) → handles before c heard sent after → P)
       → (c : ℕ) (channel : ChannelSeen) (taken : Taken) (result : Option Given) (new : ChannelSeen) → AnswersFront handles c channel taken result new before after → P
@@ -50,7 +50,7 @@ module _ {H : Type 0} (reads : List ℕ → Taken → Type 0) (before after : H)
   next-either P none one hub (turns.Closing c) result new h = none h.0
   next-either P none one hub turns.Done result new h = none h.0
 
--- what a call says of a handler it says of what is seen of it
+-- What holds for a handler holds for what is seen of it.
 module _ {H G : Type 0} (reads : List ℕ → Taken → Type 0) (before after : H) (f : H → G) (handles : H → ℕ → Heard → Sent → H → Type 0) (told : G → ℕ → Heard → Sent → G → Type 0)
     (same : (c : ℕ) (heard : Heard) (sent : Sent) → handles before c heard sent after → told (f before) c heard sent (f after)) where
   front_seen : (c : ℕ) (channel : ChannelSeen) (taken : Taken) (result : Option Given) (new : ChannelSeen)
@@ -114,27 +114,27 @@ closed_next outs given old new before is =
 out_alone : (spelling : Spelling) (given : HubOut) → out_on spelling given ≡ outs_on spelling (given ∷ [])
 out_alone spelling given = sym (append-nil (out_on spelling given))
 
--- a reply that was put is what the hub gave
+-- A reply that was put is what the hub gave.
 pub out_put : (spelling : Spelling) (so_far : EventOutcome) (c : ℕ) (sent : Sent) (s : Sinks) (out audit : List ℕ)
     → PutBoth (sent_on spelling c sent) (sent_audit (so_far.count + 1) sent) (Ok tt) s out audit
     → PutsOut spelling so_far (Reply c sent) (Ok (record { count = so_far.count + 1; closed = so_far.closed })) s out audit
 out_put spelling so_far c sent s out audit h = (omega arith, or_false so_far.closed, h.0, h.1 ∙ sym (append-nil (sent_audit (so_far.count + 1) sent)))
 
--- so is what tells that its connection was closed
+-- So is the line that says that its connection was closed.
 pub out_closed : (spelling : Spelling) (so_far : EventOutcome) (c : ℕ) (s : Sinks) (out : List ℕ) → out ≡ closed_on spelling c
     → PutsOut spelling so_far (Closed c) (Ok (record { count = so_far.count; closed = true })) s out []
 out_closed spelling so_far c s out put = (omega arith, or_true so_far.closed, put, refl)
 
--- what was lost in a part was lost in the whole
+-- What was lost in a part was lost in the whole.
 out_lost_within : (spelling : Spelling) (all part : Sinks) (k : ℕ) (lost : FailedSink) (given : HubOut) (o au : List ℕ) → FailsWithin all part
     → IsOutLost spelling k lost given part o au → IsOutLost spelling k lost given all o au
 out_lost_within spelling all part k lost (Reply c sent) o au within h = record { torn = h.torn; fault = faulted_within all part lost within h.fault }
 out_lost_within spelling all part k lost (Closed c) o au within h = (h.0, h.1, h.2, h.3, within.out h.4)
 
--- the calls so far, and one more
+-- The calls so far, and one more.
 module _ (spelling : Spelling) (x : AnswerSpec) (hub between new : HubSeen) (a b c : RunSeen) (served : ℕ) (so_far : EventOutcome) (o au : List ℕ)
     (s : PutsSoFar spelling x hub between (span a b) served so_far o au) where
-  -- what it gave was put
+  -- What it gave was put.
   pub so_far_more : (more : EventOutcome) (given : HubOut) (part : Sinks) (p bu : List ℕ)
       → Nexts IsTaken (Handles spelling x) between between.turn (Some given) new b c → PutsOut spelling so_far given (Ok more) part p bu
       → PutsSoFar spelling x hub new (span a c) served more (o ++ p) (au ++ bu)
@@ -153,7 +153,7 @@ module _ (spelling : Spelling) (x : AnswerSpec) (hub between new : HubSeen) (a b
     };
   }
 
-  -- it was lost
+  -- What it gave was lost.
   pub so_far_lost : (lost : FailedSink) (given : HubOut) (all part : Sinks) (p bu : List ℕ) → FailsWithin all part
       → Nexts IsTaken (Handles spelling x) between between.turn (Some given) new b c → PutsOut spelling so_far given (Err lost) part p bu
       → PutsSome spelling x hub (span a c) served (record { lost = lost; count = so_far.count + 1 }) all (o ++ p) (au ++ bu)
@@ -170,6 +170,6 @@ module _ (spelling : Spelling) (x : AnswerSpec) (hub between new : HubSeen) (a b
     audit_text = ap (λ (t : List ℕ). t ++ bu) s.put.audit_text;
   }
 
-  -- it gave nothing more
+  -- It gave nothing more.
   pub so_far_all : Nexts IsTaken (Handles spelling x) between between.turn None new b c → PutsAll spelling x hub new (span a c) served so_far o au
   so_far_all next = record { outs = s.outs; emptied = given-all IsTaken (Handles spelling x) s.outs hub between new a b c s.given next; put = s.put }

@@ -8,13 +8,13 @@ use Rattle.jac_serve_events.specs.declared.outputs.FailedSink.{FailedSink}
 use Rattle.jac_serve_events.specs.declared.outputs.FailedSink.TheVariants as losses
 use Rattle.jac_serve_events.specs.Outside.{Span, span, Took, IsFront, Put, IsPut, PutBoth, FaultedAt, Sinks, sinks, Went, WentWith, WentTo, HasFaulted, AWriteFailed}
 
--- a put that failed left the front of its bytes
+-- A put that failed left a prefix of its bytes.
 pub torn_put : (tells : Bool) (before after bytes : List ℕ) → (IsTrue tells → AddsPrefix before after bytes)
     → (put : List ℕ) × (IsTrue tells → after ≡ before ++ put) × IsFront put bytes
 torn_put true before after bytes h = let adds = h refl in (adds.appended, λ told. adds.now, (adds.left, adds.parts))
 torn_put false before after bytes h = ([], λ told. absurd cc, (bytes, refl))
 
--- no step of a sink, and two of them
+-- No step of a sink. Below, two steps.
 pub Lasts-none : (a : SinkSeen) → Lasts a a
 Lasts-none a = record { later = omega arith; told = λ told. told; same_aims = λ told. refl }
 
@@ -50,7 +50,7 @@ rose_later : (E : Type 0) (a b c : ℕ) (result : Result (Unit {0}) E) → a ≤
 rose_later E a b c (Ok done) later h = tt
 rose_later E a b c (Err e) later h = Rose-widen a b c c later (omega arith) h
 
--- a whole put, and then another
+-- A put that succeeded, followed by another.
 pub IsPut-then : (E : Type 0) (a b c : SinkSeen) (first second : List ℕ) (done : Unit {0}) (result : Result (Unit {0}) E)
     → IsPut {E = E} (span a b) first (Ok done) → IsPut (span b c) second result → IsPut (span a c) (first ++ second) result
 IsPut-then E a b c first second done result one two = record {
@@ -61,7 +61,7 @@ IsPut-then E a b c first second done result one two = record {
   rose = rose_later E a.faults b.faults c.faults result one.lasts.later two.rose;
 }
 
--- a torn one, after which nothing is put
+-- A torn put, after which nothing is put.
 pub IsPut-torn : (E : Type 0) (sink : Span SinkSeen) (first second : List ℕ) (failed : E) → IsPut {E = E} sink first (Err failed) → IsPut {E = E} sink (first ++ second) (Err failed)
 IsPut-torn E sink first second failed one = record {
   put = one.put;
@@ -76,12 +76,12 @@ pub failed_later : (one two : Sinks) → one.out.before.faults ≤ two.out.befor
 failed_later one two out_before audit_before out_after audit_after (inl rose) = inl (Rose-widen _ _ _ _ out_before out_after rose)
 failed_later one two out_before audit_before out_after audit_after (inr rose) = inr (Rose-widen _ _ _ _ audit_before audit_after rose)
 
--- what failed in a part failed in the whole
+-- What failed in a part failed in the whole.
 pub record FailsWithin (all part : Sinks) : Type 0 where
   pub out : HasFaulted part.out → HasFaulted all.out
   pub audit : HasFaulted part.audit → HasFaulted all.audit
 
--- the part that comes last
+-- The last part of the whole.
 pub fails_behind : (out_a out_b out_c audit_a audit_b audit_c : SinkSeen) → out_a.faults ≤ out_b.faults → audit_a.faults ≤ audit_b.faults
     → FailsWithin (sinks out_a out_c audit_a audit_c) (sinks out_b out_c audit_b audit_c)
 fails_behind out_a out_b out_c audit_a audit_b audit_c out_later audit_later = record {
@@ -97,7 +97,7 @@ pub faulted_failed : (s : Sinks) (lost : FailedSink) → FaultedAt lost s → AW
 faulted_failed s losses.Out fault = inl fault
 faulted_failed s losses.Audit fault = inr fault
 
--- the audit's line failed, and nothing was put on out
+-- The audit line failed, and nothing was put on `out`.
 pub Went-line : (out audit_before audit_after : SinkSeen) (reply line : List ℕ) (failed : Failed)
     → IsPut {E = Failed} (span audit_before audit_after) line (Err failed) → WentWith (sinks out out audit_before audit_after) (PutBoth reply line (Err losses.Audit))
 Went-line out audit_before audit_after reply line failed put = record {
@@ -110,7 +110,7 @@ Went-line out audit_before audit_after reply line failed put = record {
   holds = record { torn = (refl, put.is_put); fault = put.rose };
 }
 
--- the audit's line was put, and the reply wasn't, or not whole
+-- The audit line was put, and the reply failed.
 pub Went-reply : (out_before out_after audit_before audit_after : SinkSeen) (reply line : List ℕ) (done : Unit {0}) (failed : Failed)
     → IsPut {E = Failed} (span audit_before audit_after) line (Ok done) → IsPut {E = Failed} (span out_before out_after) reply (Err failed)
     → WentWith (sinks out_before out_after audit_before audit_after) (PutBoth reply line (Err losses.Out))
@@ -137,7 +137,7 @@ Went-both out_before out_after audit_before audit_after reply line done also put
   holds = (put.is_put, put_line.is_put);
 }
 
--- what follows of the bytes
+-- A consequence of the bytes that were put.
 pub Went-on : (s : Sinks) (P Q : List ℕ → List ℕ → Type 0) → ((out audit : List ℕ) → P out audit → Q out audit) → Went s P → Went s Q
 Went-on s P Q f went = record {
   out = went.out;
@@ -149,7 +149,7 @@ Went-on s P Q f went = record {
   holds = f went.out went.audit went.holds;
 }
 
--- nothing was put
+-- Nothing was put.
 pub Went-none : (out audit : SinkSeen) (P : List ℕ → List ℕ → Type 0) → P [] [] → Went (sinks out out audit audit) P
 Went-none out audit P h = record {
   out = [];
@@ -161,7 +161,7 @@ Went-none out audit P h = record {
   holds = h;
 }
 
--- two steps, of which the bytes are joined
+-- Two steps in a row put their bytes one after the other.
 pub Went-then : (out_a out_b out_c audit_a audit_b audit_c : SinkSeen) (P Q R : List ℕ → List ℕ → Type 0)
     → ((o a p b : List ℕ) → P o a → Q p b → R (o ++ p) (a ++ b))
     → Went (sinks out_a out_b audit_a audit_b) P → Went (sinks out_b out_c audit_b audit_c) Q → Went (sinks out_a out_c audit_a audit_c) R
@@ -175,7 +175,7 @@ Went-then out_a out_b out_c audit_a audit_b audit_c P Q R f one two = record {
   holds = f one.out one.audit two.out two.audit one.holds two.holds;
 }
 
--- a step that puts nothing, before one that does
+-- A step that puts nothing, before one that may.
 pub Went-after : (out_a out_b out_c audit_a audit_b : SinkSeen) (P Q : List ℕ → List ℕ → Type 0) → Lasts out_a out_b → Took (span out_a out_b) [] → ((out audit : List ℕ) → P out audit → Q out audit)
     → Went (sinks out_b out_c audit_a audit_b) P → Went (sinks out_a out_c audit_a audit_b) Q
 Went-after out_a out_b out_c audit_a audit_b P Q lasts took f went = record {
@@ -188,7 +188,7 @@ Went-after out_a out_b out_c audit_a audit_b P Q lasts took f went = record {
   holds = f went.out went.audit went.holds;
 }
 
--- nothing was put on either
+-- Nothing was put on either sink.
 pub Went-quiet : (out_a out_b audit : SinkSeen) (P : List ℕ → List ℕ → Type 0) → Lasts out_a out_b → Took (span out_a out_b) [] → P [] [] → Went (sinks out_a out_b audit audit) P
 Went-quiet out_a out_b audit P lasts took h = record {
   out = [];
@@ -200,7 +200,7 @@ Went-quiet out_a out_b audit P lasts took h = record {
   holds = h;
 }
 
--- the same of one sink
+-- The same for one sink.
 pub WentTo-none : (sink : SinkSeen) (P : List ℕ → Type 0) → P [] → WentTo (span sink sink) P
 WentTo-none sink P h = record { put = []; lasts = Lasts-none sink; took = Took-none sink; holds = h }
 
@@ -215,6 +215,6 @@ WentTo-then a b c P Q R f one two = record {
   holds = f one.put two.put one.holds two.holds;
 }
 
--- of two sinks, what went to the second
+-- For two sinks, what went to the second.
 pub Went-second : (s : Sinks) (P : List ℕ → List ℕ → Type 0) (Q : List ℕ → Type 0) → ((out audit : List ℕ) → Took s.out out → P out audit → Q audit) → Went s P → WentTo s.audit Q
 Went-second s P Q f went = record { put = went.audit; lasts = went.audit_lasts; took = went.audit_took; holds = f went.out went.audit went.out_took went.holds }

@@ -27,11 +27,11 @@ use Rattle.jac_serve_events.proofs.HubLemmas.{closings_text}
 use Rattle.jac_serve_events.proofs.BringsLemmas.{brings-push, brings-heard, brings-part, brings-begun, open_after}
 use Rattle.jac_serve_events.proofs.OutsideLemmas.{FailsWithin, faulted_within, faulted_failed}
 
--- events that were served, before those of the rest
+-- The events that were served, followed by those of the rest.
 abbrev pub served_before : List Event → Script → Script
 served_before events script = record { events = events ++ script.events; refused = script.refused }
 
--- some lines were served, and these are left
+-- Some lines were served, and these are left.
 pub record Progress (x : AnswerSpec) (hub : HubSeen) (k : Span RunSeen) (bytes : List ℕ) (left : Option (List ℕ)) (lines served : ℕ) (out audit : List ℕ) : Type 0 where
   pub events : List Event
   pub log : List LogEntry
@@ -64,7 +64,7 @@ pub start : (x : AnswerSpec) (lawful : IsAnswerSpec x) (hub : HubSeen) (a : RunS
 start x lawful hub a bytes new starts =
     subst (λ (h : HubSeen). Progress x h (span a a) bytes (Some bytes) 0 0 [] []) (sym new) (start_new x lawful a bytes starts)
 
--- the lines that are left, by what the first of them writes down
+-- The lines that are left, by what the first of them describes.
 opened : {x : AnswerSpec} {hub : HubSeen} {k : Span RunSeen} {bytes : List ℕ} {left : Option (List ℕ)} {lines served : ℕ} {out audit : List ℕ}
     (p : Progress x hub k bytes left lines served out audit) (line : List ℕ) (rest : List (List ℕ)) (written : Option (Option Event)) → parts_left 10 left ≡ line ∷ rest → line_of line ≡ written
     → served_before p.events (script_step (lines + 1) written (is_connection_open p.known) (script_from rest (lines + 1 + 1))) ≡ script_of bytes
@@ -72,7 +72,7 @@ opened {x} {hub} {k} {bytes} {left} {lines} p line rest written parts is =
     ap (λ (o : Option (Option Event)). served_before p.events (script_step (lines + 1) o (is_connection_open p.known) (script_from rest (lines + 1 + 1)))) (sym is)
     ∙ ap (λ (ls : List (List ℕ)). served_before p.events (script_from ls (lines + 1) (is_connection_open p.known))) (sym parts) ∙ p.script
 
--- an empty line is passed over
+-- An empty line is skipped.
 pass_over : (x : AnswerSpec) (hub new : HubSeen) (a b c : RunSeen) (bytes : List ℕ) (left after : Option (List ℕ)) (lines served : ℕ) (out audit line : List ℕ)
     → Progress x hub (span a b) bytes left lines served out audit → new ≡ hub → c ≡ b
     → parts_left 10 left ≡ line ∷ parts_left 10 after → line_of line ≡ Some None → Progress x new (span a c) bytes after (lines + 1) served out audit
@@ -92,7 +92,7 @@ pass_over x hub new a b c bytes left after lines served out audit line p same st
 pub served_push : (events : List Event) (event : Event) (script : Script) → served_before (events ++ event ∷ []) script ≡ served_before events (with_event event script)
 served_push events event script = ap (λ (es : List Event). let s : Script = record { events = es; refused = script.refused } in s) (append_assoc events (event ∷ []) script.events)
 
--- the script by the line of an event that may stand there
+-- The script, if the event of the next line is permitted.
 allowed : {x : AnswerSpec} {hub : HubSeen} {k : Span RunSeen} {bytes : List ℕ} {left : Option (List ℕ)} {lines served : ℕ} {out audit : List ℕ}
     (p : Progress x hub k bytes left lines served out audit) (after : Option (List ℕ)) (line : List ℕ) (event : Event)
     → parts_left 10 left ≡ line ∷ parts_left 10 after → line_of line ≡ Some (Some event) → event_fault_of (lines + 1) (is_connection_open p.known) event ≡ None
@@ -107,7 +107,7 @@ audited_more log mine served audit more counted is more_is =
     ∙ ap (λ (t : List ℕ). audit_lines log ++ t) (more_is ∙ ap (λ (n : ℕ). audited_from n mine) (omega (arith, counted)))
     ∙ sym (audited-append 1 log mine)
 
--- a line's event is served
+-- The event of a line is served.
 serve_one : (x : AnswerSpec) (lawful : IsAnswerSpec x) (hub new : HubSeen) (a b c : RunSeen) (bytes : List ℕ) (left after : Option (List ℕ)) (lines served : ℕ) (brought : EventOutcome) (out audit line o au : List ℕ) (event : Event)
     → (p : Progress x hub (span a b) bytes left lines served out audit)
     → parts_left 10 left ≡ line ∷ parts_left 10 after → line_of line ≡ Some (Some event) → event_fault_of (lines + 1) (is_connection_open p.known) event ≡ None
@@ -158,7 +158,7 @@ go_on x lawful hub new a b c bytes left after lines served count s out audit lin
     let one = h (0 + length p.events) p.known p.like in
     serve_one x lawful hub new a b c bytes left after lines served (record { count = count; closed = one.1 }) out audit line o au event p parts is one.0 one.2
 
--- what was served of all, whole or in part
+-- What was served of all events, whole or in part.
 pub heard_by : (early : Bool) (x : AnswerSpec) (events unserved all : List Event) (log : List LogEntry) (out : List ℕ) (known : Connections Ask)
     → Brings x no_connections 0 events log out known → all ≡ events ++ unserved → (early ≡ false → unserved ≡ []) → IsHeardBy early (hearing x) all log
 heard_by false x events unserved all log out known brings parts whole =
@@ -174,7 +174,7 @@ is_served_by early x a b all log heard entries = record {
   entries = entries;
 }
 
--- the lines so far were put, and no more
+-- The lines so far were put, and nothing more.
 finish_with : (early : Bool) (x : AnswerSpec) (hub : HubSeen) (a b c : RunSeen) (bytes : List ℕ) (left : Option (List ℕ)) (lines served : ℕ) (out audit : List ℕ) (unserved : List Event)
     → (p : Progress x hub (span a b) bytes left lines served out audit) → c ≡ b → (script_of bytes).events ≡ p.events ++ unserved → (early ≡ false → unserved ≡ [])
     → PutsServed early x (span a c) (script_of bytes) out audit
@@ -192,7 +192,7 @@ finish_with early x hub a b c bytes left lines served out audit unserved p still
   audit_text = p.audit_text;
 }
 
--- a line is refused
+-- A line is refused.
 finish_refused : (x : AnswerSpec) (hub : HubSeen) (a b c : RunSeen) (bytes : List ℕ) (left : Option (List ℕ)) (lines served : ℕ) (s : Sinks) (out audit o au : List ℕ) (event_fault : EventFault)
     → (p : Progress x hub (span a b) bytes left lines served out audit) → served_before p.events (stopped_at event_fault) ≡ script_of bytes → o ≡ [] → au ≡ [] → c ≡ b
     → ServesAs x (span a c) bytes (Err (stops.Refused event_fault)) s (out ++ o) (audit ++ au)
@@ -222,7 +222,7 @@ torn_at x served n event known mine s o au count place same at h =
     subst (λ (m : ℕ). IsEntryTorn count mine s o au ⊎ IsClosingTorn x count m event known mine s o au) at
     (subst (λ (m : ℕ). IsEntryTorn m mine s o au ⊎ IsClosingTorn x m n event known mine s o au) same h)
 
--- what was torn by a part was torn by the whole
+-- What was torn by a part was torn by the whole.
 module _ (x : AnswerSpec) (served n : ℕ) (event : Event) (known : Connections Ask) (mine : List LogEntry) (o au : List ℕ) (all part : Sinks) (within : FailsWithin all part) where
   both_within : IsEntryTorn served mine part o au ⊎ IsClosingTorn x served n event known mine part o au → IsEntryTorn served mine all o au ⊎ IsClosingTorn x served n event known mine all o au
   both_within (inl h) = inl (h.0, h.1, faulted_within all part h.0 within h.2)
@@ -274,7 +274,7 @@ torn_lines x served cut n event known mine s o au fault (inr h) = inr h.1
 none_before : (n : ℕ) → 0 + n ≡ n
 none_before n = omega arith
 
--- a put failed
+-- A put failed.
 finish_torn : (x : AnswerSpec) (lawful : IsAnswerSpec x) (hub : HubSeen) (a b c : RunSeen) (bytes : List ℕ) (left after : Option (List ℕ)) (lines served : ℕ) (cut : WriteFailure) (all part : Sinks) (out audit line o au : List ℕ) (event : Event)
     → FailsWithin all part → (p : Progress x hub (span a b) bytes left lines served out audit)
     → parts_left 10 left ≡ line ∷ parts_left 10 after → line_of line ≡ Some (Some event) → event_fault_of (lines + 1) (is_connection_open p.known) event ≡ None
@@ -332,7 +332,7 @@ stop_at x lawful hub new a b c bytes left after lines served all part out audit 
     let one = h (0 + length p.events) p.known p.like in
     finish_torn x lawful hub a b c bytes left after lines served one.1 all part out audit line o au event within p parts is one.0 one.2
 
--- no line is left
+-- No line is left.
 pub finish_left : (x : AnswerSpec) (hub : HubSeen) (a b : RunSeen) (bytes : List ℕ) (left : Option (Bor (List ℕ))) (lines served : ℕ) (s : Sinks) (out audit : List ℕ)
     → ((rest : Bor (List ℕ)) → left ≡ Some rest → ⊥) → Progress x hub (span a b) bytes (option_now left) lines served out audit
     → ServesAs x (span a b) bytes (Ok tt) s out audit
@@ -346,7 +346,7 @@ pub shorter_left : (after : Option (Bor (List ℕ))) (n : ℕ) → IfSome after 
 shorter_left None n h = omega arith
 shorter_left (Some rest) n h = omega (arith, h)
 
--- an event's answer is its line's
+-- The answer to an event is the answer to its line.
 pub event_line : (x : AnswerSpec) (hub new : HubSeen) (k : Span RunSeen) (served line : ℕ) (event : Event) (result : Result ℕ ReplayError) (s : Sinks) (out audit : List ℕ)
     → AnswersEvent x hub new k served line event result s out audit → AnswersLine x hub new k served line (Some (Some event)) result s out audit
 event_line x hub new k served line event (Ok count) s out audit h = h

@@ -1,4 +1,4 @@
--- What stays where things are told, of one call and another.
+-- What a reply writer keeps over two calls in a row.
 use Rattle.std.proofs.Common.{◌∙◌, refl, IsTrue}
 use Rattle.jac_serve_events.specs.ReplyWriter.{ReplyWriterSeen, KeepsRest}
 

@@ -13,20 +13,20 @@ use Rattle.jac_serve_events.specs.RunSeen.{RunSeen}
 use Rattle.jac_serve_events.specs.Outside.{Span, span}
 use Rattle.jac_viewer_caches.specs.declared.viewer_caches.ViewerEntry.{ViewerEntry}
 
--- what was answered: a request, and whether it closes its connection; what is refused; or that
--- memory ran out
+-- What was answered: a request, with whether it closes its connection; a refusal; or that memory
+-- ran out.
 abbrev pub LogSubject : Type 0
 LogSubject = SubjectOf Ask
 
--- a subject of an event, and its answer
+-- A subject of an event, and its answer.
 abbrev pub LogEntry : Type 0
 LogEntry = EntryOf Ask Answer
 
--- the answer stands for want of memory or a fault of the keeper: its connection ends
+-- The answer says that memory ran out or that the keeper had a fault. Its connection is closed.
 abbrev pub is_failure : Answer → Bool
 is_failure answer = answer.status == 500 || answer.status == 503
 
--- how requests are understood: those of a connection, and those of an `ask` line
+-- How requests are understood: those of connections and those of `ask` lines.
 abbrev pub hearing_by : (Request → Ask) → (Option ℕ → List ℕ → List ℕ → List ℕ → List ℕ → Ask)
     → Hearing Ask Answer
 hearing_by wants asks = record {
@@ -36,33 +36,33 @@ hearing_by wants asks = record {
   ends = is_failure;
 }
 
--- how an application answers
+-- How an application answers.
 pub record AnswerSpec : Type 1 where
-  -- the request of a connection
+  -- How the request of a connection is understood.
   pub wants : Request → Ask
-  -- the request of an `ask` line: its viewer, method, path, query and body
+  -- How the request of an `ask` line is understood: its viewer, method, path, query and body.
   pub asks : Option ℕ → List ℕ → List ℕ → List ℕ → List ℕ → Ask
-  -- what is kept may be answered on
+  -- Requests may be answered in this state.
   pub ready : RunSeen → Type 0
-  -- what was settled for those who looked still is, on what is kept
+  -- What was settled for viewers still holds for the keeper.
   pub settled : KeeperSeen → List ViewerEntry → Type 0
-  -- the subject has this answer, and what that leaves of what is kept
+  -- The subject has this answer, with the state before and after.
   pub entry : Span RunSeen → LogSubject → Answer → Type 0
-  -- some subjects were answered one after another, and what that leaves
+  -- Subjects were answered one after another, with the state before and after.
   pub entries : Span RunSeen → List LogEntry → Type 0
 
 abbrev pub hearing : AnswerSpec → Hearing Ask Answer
 hearing x = hearing_by x.wants x.asks
 
--- the log has the subjects that the events bring, in order; where it may stop early, the first of
--- them
+-- The log has the subjects that the events bring, in order. If it may stop early, it has the first
+-- of them.
 abbrev pub IsHeardBy : Bool → Hearing Ask Answer → List Event → List LogEntry → Type 0
 IsHeardBy false h events log = IsHeard h events log
 IsHeardBy true h events log = IsHeardInPart h events log
 
--- what serves an application rests on: a request of an `ask` line has its method; entries are
--- answered one after another as each of them is, and after each what is kept may be answered on;
--- and where memory ran out for what was heard, that is answered without the keeper
+-- The conditions on which serving an application depends. The request of an `ask` line has its
+-- method. Entries are answered one after another, each as it is alone, and requests may be answered
+-- after each of them. If memory ran out for what was heard, it is answered without the keeper.
 pub record IsAnswerSpec (x : AnswerSpec) : Type 0 where
   pub same_method : (viewer : Option ℕ) (method path query body : List ℕ)
       → (x.asks viewer method path query body).method ≡ method

@@ -4,18 +4,18 @@ use Rattle.jac_serve_events.specs.AnswerSpec.{AnswerSpec}
 use Rattle.jac_serve_events.specs.RunSeen.{RunSeen}
 use Rattle.jac_serve_events.specs.Outside.{Span, span}
 
--- what contracts see of a dispatcher: whose it is, and what a run sees of its keeper, its counts
--- and what was settled for those who looked
+-- What contracts see of a dispatcher: its identity, and what a run sees of its keeper, its counts
+-- and what was settled for viewers.
 pub record DispatcherSeen (O : Type 0) : Type 0 where
   pub of : O
   pub run_seen : RunSeen
 
--- what a dispatcher holds before and after some calls
+-- What a run sees of a dispatcher before and after some calls.
 abbrev pub kept : {O : Type 0} → DispatcherSeen O → DispatcherSeen O → Span RunSeen
 kept before after = span before.run_seen after.run_seen
 
--- a dispatcher may serve: its store is attached, what it keeps may be answered on, and what was
--- settled is so still
+-- A dispatcher may serve: its store is attached, requests may be answered in its state, and what
+-- was settled still holds.
 pub record MayServe {O : Type 0} (answer_spec : O → AnswerSpec)
     (dispatcher : DispatcherSeen O) : Type 0 where
   pub attached : IsTrue dispatcher.run_seen.keeper.store.attached
@@ -23,7 +23,7 @@ pub record MayServe {O : Type 0} (answer_spec : O → AnswerSpec)
   pub settled : (answer_spec dispatcher.of).settled dispatcher.run_seen.keeper
       dispatcher.run_seen.viewer_caches
 
--- after a call a dispatcher is whose it was, its store is what it was, and it may serve again
+-- After a call, a dispatcher has the same identity and store, and may serve again.
 pub record KeepsDispatcher {O : Type 0} (answer_spec : O → AnswerSpec)
     (before after : DispatcherSeen O) : Type 0 where
   pub same : after.of ≡ before.of

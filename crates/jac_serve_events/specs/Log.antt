@@ -15,13 +15,13 @@ use Rattle.jac_replies.specs.declared.reply.Spelling.TheVariants as spellings
 use Rattle.jac_replies.specs.Spelled.{reply_text, spelled_bytes, closed_text, audit_text}
 use Rattle.jac_serve_events.specs.AnswerSpec.{LogSubject, LogEntry, is_failure, AnswerSpec, hearing}
 
--- the method of a request, whose body isn't sent where it is HEAD
+-- The method of a request. If it is HEAD, the body isn't sent.
 abbrev pub method_of : LogSubject → List ℕ
 method_of (whole ask closes) = ask.method
 method_of (refused status) = []
 method_of broken = []
 
--- the reply says that its connection is closed
+-- The reply says that its connection is closed.
 abbrev pub closes_behind : LogSubject → Answer → Bool
 closes_behind (whole ask closes) answer = closes || is_failure answer
 closes_behind (refused status) answer = true
@@ -32,7 +32,7 @@ answer_bytes subject answer =
     reply_bytes answer.status answer.location answer.allow answer.body (is_some answer.shown)
     (bytes_eq (method_of subject) (codes "HEAD")) (closes_behind subject answer)
 
--- the reply, which on a connection is spelled so
+-- The reply, which is spelled this way if it is sent on a connection.
 abbrev pub reply_on : Spelling → Source → LogSubject → Answer → List ℕ
 reply_on spelling asked subject answer =
     reply_text (method_of subject) answer.status answer.location answer.body
@@ -45,15 +45,15 @@ entry_on spelling entry = reply_on spelling entry.source entry.subject entry.ans
 abbrev pub replies_on : Spelling → List LogEntry → List ℕ
 replies_on spelling log = flat_map (entry_on spelling) log
 
--- the reply in a text
+-- The reply in a text.
 abbrev pub reply_to : Source → LogSubject → Answer → List ℕ
 reply_to source subject answer = reply_on spellings.Quoted source subject answer
 
--- the lines of the replies, in order
+-- The lines of the replies, in order.
 abbrev pub replies_text : List LogEntry → List ℕ
 replies_text log = replies_on spellings.Quoted log
 
--- `closed N`, where the event's connection was closed in it
+-- The line `closed N`, if the event closed its connection.
 abbrev pub closing_text : Event → Connections Ask → Connections Ask → List ℕ
 closing_text (Asking viewer method path query body) before after = []
 closing_text (Begin c) before after = []
@@ -61,13 +61,14 @@ closing_text (Piece c bytes) before after =
     if not (is_shut (before c)) && is_shut (after c) then closed_text c else []
 closing_text (Finish c) before after = []
 
--- the text of an event: the lines of its replies, and that its connection was closed
+-- The text of an event: the lines of its replies, and then that its connection was closed, if it
+-- was.
 abbrev pub event_text : AnswerSpec → Event → Connections Ask → List LogEntry → List ℕ
 event_text x event known mine =
     replies_text mine ++ closing_text event known (after_both (hearing x) event mine known)
 
--- the events, of which the first is the n-th, bring the log, this is their text, and after them
--- the connections stand so
+-- The events, numbered from n, bring the log, this is their text, and these are the connections
+-- after them.
 abbrev pub Brings : AnswerSpec → Connections Ask → ℕ → List Event → List LogEntry → List ℕ
     → Connections Ask → Type 0
 Brings x known n [] log text later = (log ≡ []) × (text ≡ []) × (later ≡ known)
@@ -91,6 +92,6 @@ abbrev pub audited_from : ℕ → List LogEntry → List ℕ
 audited_from k [] = []
 audited_from k (entry ∷ log) = audit_line k entry ++ audited_from (k + 1) log
 
--- the audit's lines, in order; replies are counted from 1
+-- The audit lines, in order. Replies are counted from 1.
 abbrev pub audit_lines : List LogEntry → List ℕ
 audit_lines log = audited_from 1 log

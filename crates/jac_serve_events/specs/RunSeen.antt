@@ -4,7 +4,7 @@ use Rattle.jac_keep.specs.KeeperSeen.{KeeperSeen}
 use Rattle.jac_viewer_caches.specs.declared.viewer_caches.ViewerEntry.{ViewerEntry}
 use Rattle.jac_serve_events.specs.Outside.{Span, span}
 
--- how many facets were split, and how often policies were evaluated
+-- The number of facets that were split, and of policy evaluations.
 pub record RunCounts : Type 0 where
   pub splits : ℕ
   pub evaluations : ℕ
@@ -12,15 +12,15 @@ pub record RunCounts : Type 0 where
 abbrev pub run_counts : ℕ → ℕ → RunCounts
 run_counts splits evaluations = record { splits = splits; evaluations = evaluations }
 
--- what a run sees of its keeper, how many facets were split, how often policies were evaluated, and
--- what is kept for those who looked
+-- What a run sees of its keeper, the number of facets that were split, the number of policy
+-- evaluations, and what is cached for viewers.
 pub record RunSeen : Type 0 where
   pub keeper : KeeperSeen
   pub splits : ℕ
   pub evaluations : ℕ
   pub viewer_caches : List ViewerEntry
 
--- where this is kept for those who looked
+-- A run with this cached for viewers.
 abbrev pub run_seen_with : KeeperSeen → RunCounts → List ViewerEntry → RunSeen
 run_seen_with keeper counts viewer_caches = record {
   keeper = keeper;
@@ -29,22 +29,22 @@ run_seen_with keeper counts viewer_caches = record {
   viewer_caches = viewer_caches;
 }
 
--- where nothing is kept for anybody, as at the begin of each command
+-- A run with nothing cached for viewers, as at the beginning of each command.
 abbrev pub run_seen_of : KeeperSeen → RunCounts → RunSeen
 run_seen_of keeper counts = run_seen_with keeper counts []
 
--- what was counted
+-- The counts.
 abbrev pub counts_in : RunSeen → RunCounts
 counts_in seen = run_counts seen.splits seen.evaluations
 
--- the keeper alone
+-- The keeper alone.
 abbrev pub keepers : Span RunSeen → Span KeeperSeen
 keepers k = span k.before.keeper k.after.keeper
 
--- it was not called
+-- It was not called.
 abbrev pub IsStill : {X : Type 0} → Span X → Type 0
 IsStill k = k.after ≡ k.before
 
--- a count grew by so much, or stands at its end
+-- A count grew by at least this much, or is at its maximum.
 abbrev pub Grew : ℕ → ℕ → ℕ → Type 0
 Grew before by now = min (before + by) (2 ^ 64 - 1) ≤ now

@@ -7,19 +7,19 @@ use Rattle.jac_serve_events.specs.Line.{lines_of}
 use Rattle.jac_serve_events.specs.declared.serve.EventFault.{EventFault}
 use Rattle.jac_serve_events.specs.declared.serve.EventFault.TheVariants as event_faults
 
--- the events of a file: those of the lines before the first line that is refused, and why it is
+-- The events of the lines before the first line that is refused, and why that line is.
 pub record Script : Type 0 where
   pub events : List Event
   pub refused : Option EventFault
 
--- a connection is open from its Begin to its Finish
+-- A connection is open from its Begin to its Finish.
 abbrev pub opened_by : Event → (ℕ → Bool) → ℕ → Bool
 opened_by (Ask viewer method path query body) opened = opened
 opened_by (Begin c) opened = λ d. if d == c then true else opened d
 opened_by (Piece c bytes) opened = opened
 opened_by (Finish c) opened = λ d. if d == c then false else opened d
 
--- the event of the n-th line names a connection in the wrong state
+-- The fault of the n-th line, if its event names a connection in the wrong state.
 abbrev pub event_fault_of : ℕ → (ℕ → Bool) → Event → Option EventFault
 event_fault_of n opened (Ask viewer method path query body) = None
 event_fault_of n opened (Begin c) = if opened c then Some (event_faults.AlreadyOpen n c) else None
@@ -32,24 +32,24 @@ with_event event script = record { events = event ∷ script.events; refused = s
 abbrev pub stopped_at : EventFault → Script
 stopped_at event_fault = record { events = []; refused = Some event_fault }
 
--- an event, before what follows it
+-- An event, followed by the rest.
 abbrev pub script_event : Option EventFault → Event → Script → Script
 script_event (Some event_fault) event rest = stopped_at event_fault
 script_event None event rest = with_event event rest
 
--- the n-th line by what it writes down, before what follows it; an empty line is passed over
+-- The n-th line, by what it describes, followed by the rest. An empty line is skipped.
 abbrev pub script_step : ℕ → Option (Option Event) → (ℕ → Bool) → ((ℕ → Bool) → Script) → Script
 script_step n None opened rest = stopped_at (event_faults.NoForm n)
 script_step n (Some None) opened rest = rest opened
 script_step n (Some (Some event)) opened rest = script_event (event_fault_of n opened event) event
     (rest (opened_by event opened))
 
--- the lines from the n-th on, before which these connections are open
+-- The script of the lines from the n-th on, given the connections that are open before them.
 abbrev pub script_from : List (List ℕ) → ℕ → (ℕ → Bool) → Script
 script_from [] n opened = record { events = []; refused = None }
 script_from (line ∷ lines) n opened = script_step n (line_of line) opened
     (script_from lines (n + 1))
 
--- lines are numbered from 1, and no connection is open before them
+-- The script of a file. Lines are numbered from 1, and no connection is open before them.
 abbrev pub script_of : List ℕ → Script
 script_of bytes = script_from (lines_of bytes) 1 (λ c. false)

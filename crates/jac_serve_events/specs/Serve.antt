@@ -41,8 +41,8 @@ use Rattle.jac_serve_events.specs.Log.{Brings, reply_on, reply_to, entry_on, rep
 use Rattle.jac_serve_events.specs.Outside.{Span, span, Sinks, IsFront, HasFaulted, IsLostOn, FaultedAt, IsLostAt}
 use Rattle.jac_serve_events.specs.Script.{Script, script_of, event_fault_of}
 
--- the request of an `ask` line was answered: its reply, and what follows the number of its audit
--- line; or it wasn't, and this says why
+-- The request of an `ask` line was answered with this reply and audit line, which is given without
+-- its number. Or it wasn't answered, for this reason.
 abbrev pub IsAsked : AnswerSpec → Span RunSeen → Ask → AskOutcome → Type 0
 IsAsked x k ask (Answered reply audit) =
     (answer : Answer) × x.entry k (whole ask false) answer
@@ -51,7 +51,7 @@ IsAsked x k ask (Answered reply audit) =
 IsAsked x k ask (Unanswered stop viewer) = x.entry k (whole ask false)
     (refusal (status_of_stop stop) None) × (viewer ≡ ask.viewer)
 
--- what is put for it, as the k-th reply
+-- The reply to the request of an `ask` line. Below, the audit line of the k-th reply.
 abbrev pub asked_line : List ℕ → AskOutcome → List ℕ
 asked_line method (Answered reply audit) = reply
 asked_line method (Unanswered stop viewer) = reply_text method (status_of_stop stop) None
@@ -65,18 +65,18 @@ abbrev pub subject_of : AnswerSpec → Heard → LogSubject
 subject_of x (Whole request) = whole (x.wants request) request.close
 subject_of x (Refused status) = refused status
 
--- what is put for what was sent on a connection
+-- What is put for what was sent on a connection.
 abbrev pub sent_on : Spelling → ℕ → Sent → List ℕ
 sent_on spelling c (Made line audit close) = line
 sent_on spelling c (Still status head viewer) =
     spelled_bytes spelling c (reply_bytes (status_of_fixed status) None None [] false head true)
 
--- the audit's line for it, of the k-th reply
+-- The audit line for it, if it is the k-th reply.
 abbrev pub sent_audit : ℕ → Sent → List ℕ
 sent_audit k (Made line audit close) = decimal k ++ audit
 sent_audit k (Still status head viewer) = audit_text k (status_of_fixed status) viewer None None
 
--- what was heard of a connection has this answer, and what was sent is its reply
+-- What was heard on a connection has this answer, and what was sent is its reply.
 pub record IsHandled (spelling : Spelling) (x : AnswerSpec) (before : RunSeen) (c : ℕ)
     (heard : Heard) (sent : Sent) (after : RunSeen) (answer : Answer) : Type 0 where
   pub line : sent_on spelling c sent ≡ reply_on spelling (connection c) (subject_of x heard) answer
@@ -89,12 +89,12 @@ abbrev pub Handles : Spelling → AnswerSpec → RunSeen → ℕ → Heard → S
 Handles spelling x before c heard sent after = (answer : Answer)
     × IsHandled spelling x before c heard sent after answer
 
--- that a connection was closed is told in a text alone
+-- That a connection was closed is put in a text only.
 abbrev pub closed_on : Spelling → ℕ → List ℕ
 closed_on spellings.Quoted c = closed_text c
 closed_on spellings.Raw c = []
 
--- what is put for what a hub gives
+-- What is put for what a hub gives.
 abbrev pub out_on : Spelling → HubOut → List ℕ
 out_on spelling (Reply c sent) = sent_on spelling c sent
 out_on spelling (Closed c) = closed_on spelling c
@@ -102,13 +102,13 @@ out_on spelling (Closed c) = closed_on spelling c
 abbrev pub outs_on : Spelling → List HubOut → List ℕ
 outs_on spelling outs = flat_map (out_on spelling) outs
 
--- so many replies are among them
+-- The number of replies among them.
 abbrev pub replies_in : List HubOut → ℕ
 replies_in [] = 0
 replies_in (Reply c sent ∷ outs) = 1 + replies_in outs
 replies_in (Closed c ∷ outs) = replies_in outs
 
--- their audit lines, the first of which is that of the k-th reply
+-- The audit lines of what a hub gives. The first reply is the k-th.
 abbrev pub outs_audited : ℕ → List HubOut → List ℕ
 outs_audited k [] = []
 outs_audited k (Reply c sent ∷ outs) = sent_audit k sent ++ outs_audited (k + 1) outs
@@ -118,13 +118,13 @@ abbrev pub is_closed_out : HubOut → Bool
 is_closed_out (Reply c sent) = false
 is_closed_out (Closed c) = true
 
--- one of them tells that the connection was closed
+-- One of them says that the connection was closed.
 abbrev pub has_closed : List HubOut → Bool
 has_closed [] = false
 has_closed (given ∷ outs) = is_closed_out given || has_closed outs
 
--- what was to be put for one of them was lost: for the k-th reply; or, in a text, for what tells
--- that the connection was closed
+-- What was to be put for an output was lost: the k-th reply, or, in a text, the line that says that
+-- the connection was closed.
 abbrev pub IsOutLost : Spelling → ℕ → FailedSink → HubOut → Sinks → List ℕ → List ℕ → Type 0
 IsOutLost spelling k lost (Reply c sent) s out audit =
     IsLostAt lost (sent_on spelling c sent) (sent_audit k sent) s out audit
@@ -132,7 +132,7 @@ IsOutLost spelling k lost (Closed c) s out audit =
     (spelling ≡ spellings.Quoted) × (lost ≡ losses.Out) × IsFront out (closed_on spelling c)
     × (audit ≡ []) × HasFaulted s.out
 
--- one of them is put, after what was put so far
+-- One output is put, after what was put so far.
 abbrev pub PutsOut : Spelling → EventOutcome → HubOut → Result EventOutcome FailedSink → Sinks →
     List ℕ → List ℕ
     → Type 0
@@ -143,7 +143,7 @@ PutsOut spelling so_far given (Ok more) s out audit =
 PutsOut spelling so_far given (Err lost) s out audit =
     IsOutLost spelling (so_far.count + 1) lost given s out audit
 
--- these were put, after so many replies
+-- These outputs were put, after `served` replies.
 pub record ArePutOut (spelling : Spelling) (served : ℕ) (brought : EventOutcome)
     (outs : List HubOut)
     (out audit : List ℕ) : Type 0 where
@@ -152,21 +152,21 @@ pub record ArePutOut (spelling : Spelling) (served : ℕ) (brought : EventOutcom
   pub out_text : out ≡ outs_on spelling outs
   pub audit_text : audit ≡ outs_audited (served + 1) outs
 
--- what a hub gave so far was put
+-- What a hub gave so far was put.
 pub record PutsSoFar (spelling : Spelling) (x : AnswerSpec) (hub now : HubSeen) (k : Span RunSeen)
     (served : ℕ) (so_far : EventOutcome) (out audit : List ℕ) : Type 0 where
   pub outs : List HubOut
   pub given : IsGiven IsTaken (Handles spelling x) hub outs now k.before k.after
   pub put : ArePutOut spelling served so_far outs out audit
 
--- all that a hub gave was put
+-- All that a hub gave was put.
 pub record PutsAll (spelling : Spelling) (x : AnswerSpec) (hub new : HubSeen) (k : Span RunSeen)
     (served : ℕ) (brought : EventOutcome) (out audit : List ℕ) : Type 0 where
   pub outs : List HubOut
   pub emptied : IsEmptied IsTaken (Handles spelling x) hub outs new k.before k.after
   pub put : ArePutOut spelling served brought outs out audit
 
--- some of what a hub gave was put, and then one was lost, after which it was asked for nothing
+-- Some of what a hub gave was put. Then one output was lost, and nothing more was asked of the hub.
 pub record PutsSome (spelling : Spelling) (x : AnswerSpec) (hub : HubSeen) (k : Span RunSeen)
     (served : ℕ) (cut : WriteFailure) (s : Sinks) (out audit : List ℕ) : Type 0 where
   pub outs : List HubOut
@@ -192,7 +192,7 @@ event_fault_by line (faults.NotOpen c) = Some (event_faults.NotOpen line c)
 event_fault_by line (faults.AlreadyOpen c) = Some (event_faults.AlreadyOpen line c)
 event_fault_by line faults.Memory = None
 
--- a hub took the event of this line, or why it didn't
+-- A hub took the event of this line, or why it didn't.
 abbrev pub TakesEvent : ℕ → HubSeen → Event → Result (Unit {0}) ReplayError → HubSeen → Type 0
 TakesEvent line hub event (Ok done) new =
     (taken : Result (Unit {0}) HubFault) × Steps hub event taken new × (IsLost event taken → ⊥)
@@ -202,16 +202,16 @@ TakesEvent line hub event (Err (stops.Refused event_fault)) new = (fault : HubFa
 TakesEvent line hub event (Err stops.Memory) new = ⊤
 TakesEvent line hub event (Err stops.Write) new = ⊥
 
--- the connections that have begun
+-- The connections that have begun.
 abbrev pub is_connection_open : Connections Ask → ℕ → Bool
 is_connection_open known c = is_some (known c)
 
--- the connections of a hub between two events
+-- The connections of a hub between two events.
 pub record IsFollowing (x : AnswerSpec) (hub : HubSeen) : Type 0 where
   pub known : Connections Ask
   pub like : AreLike (hearing x) hub.channels known
 
--- the n-th event was served whole, of which the connections stood so before
+-- The n-th event was served whole, given the connections before it.
 pub record IsEventServed (spelling : Spelling) (x : AnswerSpec) (new : HubSeen) (k : Span RunSeen)
     (served : ℕ) (brought : EventOutcome) (n : ℕ) (event : Event)
     (known : Connections Ask) (out audit : List ℕ) : Type 0 where
@@ -227,7 +227,7 @@ pub record IsEventServed (spelling : Spelling) (x : AnswerSpec) (new : HubSeen) 
       (after_both (hearing x) event mine known))
   pub audit_text : audit ≡ audited_from (served + 1) mine
 
--- all was put before the last of these entries, whose reply was lost
+-- All was put before the reply to the last of these entries, which was lost.
 pub record IsLastLost (spelling : Spelling) (lost : FailedSink) (first : ℕ) (log : List LogEntry)
     (out audit : List ℕ) : Type 0 where
   pub whole_ones : List LogEntry
@@ -240,14 +240,15 @@ pub record IsLastLost (spelling : Spelling) (lost : FailedSink) (first : ℕ) (l
   pub out_text : out ≡ replies_on spelling whole_ones ++ out_torn
   pub audit_text : audit ≡ audited_from (first + 1) whole_ones ++ audit_torn
 
--- the lines of the last of these entries were torn: the audit's line, where the audit failed; or it
--- was whole and the reply was torn, where the sink of replies failed
+-- Of the lines of the last of these entries, only a prefix was put. If the audit failed, this is a
+-- prefix of its line. If the sink of replies failed, the audit line was put whole, and a prefix of
+-- the reply.
 abbrev pub IsEntryTorn : ℕ → List LogEntry → Sinks → List ℕ → List ℕ → Type 0
 IsEntryTorn served mine s out audit = (lost : FailedSink)
     × IsLastLost spellings.Quoted lost served mine out audit × FaultedAt lost s
 
--- the line was torn that tells that a connection was closed, where the event has one, and the sink
--- of replies failed
+-- The event has a line that says that its connection was closed. Only a prefix of it was put,
+-- because the sink of replies failed.
 pub record IsClosingTorn (x : AnswerSpec) (served n : ℕ) (event : Event) (known : Connections Ask)
     (mine : List LogEntry) (s : Sinks) (out audit : List ℕ) : Type 0 where
   pub out_torn : List ℕ
@@ -258,8 +259,8 @@ pub record IsClosingTorn (x : AnswerSpec) (served n : ℕ) (event : Event) (know
   pub out_text : out ≡ replies_text mine ++ out_torn
   pub audit_text : audit ≡ audited_from (served + 1) mine
 
--- the first entries of the n-th event were answered, and a put failed: of the last of them; or, in
--- a text, of what tells that a connection was closed
+-- The first entries of the n-th event were answered, and a put failed: for the last of them, or, in
+-- a text, for the line that says that the connection was closed.
 pub record IsEventCut (spelling : Spelling) (x : AnswerSpec) (k : Span RunSeen) (served : ℕ)
     (cut : WriteFailure) (n : ℕ) (event : Event)
     (known : Connections Ask) (s : Sinks) (out audit : List ℕ) : Type 0 where
@@ -271,7 +272,7 @@ pub record IsEventCut (spelling : Spelling) (x : AnswerSpec) (k : Span RunSeen) 
       × (cut.count ≡ served + length mine))
       ⊎ ((spelling ≡ spellings.Quoted) × IsClosingTorn x served n event known mine s out audit)
 
--- an event is served, whichever connections the hub may stand for; it stands on this line
+-- An event, which is on this line, is served, for any connections with which the hub agrees.
 abbrev pub AnswersEvent : AnswerSpec → HubSeen → HubSeen → Span RunSeen → ℕ → ℕ → Event
     → Result ℕ ReplayError → Sinks → List ℕ → List ℕ → Type 0
 AnswersEvent x hub new k served line event (Ok count) s out audit =
@@ -290,7 +291,7 @@ AnswersEvent x hub new k served line event (Err stops.Write) s out audit =
     → (event_fault_of line (is_connection_open known) event ≡ None) × (cut : WriteFailure)
     × IsEventCut spellings.Quoted x k served cut n event known s out audit
 
--- a line by what it writes down: nothing, an event, or it has no form
+-- A line is served. It is empty, describes an event, or has no form.
 abbrev pub AnswersLine : AnswerSpec → HubSeen → HubSeen → Span RunSeen → ℕ → ℕ
     → Option (Option Event) → Result ℕ ReplayError → Sinks → List ℕ → List ℕ → Type 0
 AnswersLine x hub new k served line written (Err stops.Memory) s out audit =
@@ -303,14 +304,14 @@ AnswersLine x hub new k served line (Some None) result s out audit =
 AnswersLine x hub new k served line (Some (Some event)) result s out audit =
     AnswersEvent x hub new k served line event result s out audit
 
--- these events were served, or, where it may stop early, the first of them: the log has what they
--- bring, and its entries were answered
+-- These events were served, or the first of them if serving may stop early. The log has what they
+-- bring, and its entries were answered.
 pub record IsServed (early : Bool) (x : AnswerSpec) (k : Span RunSeen) (events : List Event)
     (log : List LogEntry) : Type 0 where
   pub subjects : IsHeardBy early (hearing x) events log
   pub entries : x.entries k log
 
--- and their lines were put whole: the text is that of the events that were served
+-- Their lines were put whole: the text is that of the events that were served.
 pub record PutsServed (early : Bool) (x : AnswerSpec) (k : Span RunSeen) (script : Script)
     (out audit : List ℕ) : Type 0 where
   pub events : List Event
@@ -323,7 +324,7 @@ pub record PutsServed (early : Bool) (x : AnswerSpec) (k : Span RunSeen) (script
   pub out_text : Brings x no_connections 0 events log out later
   pub audit_text : audit ≡ audit_lines log
 
--- the first events were served, and the lines of the one after them were torn
+-- The first events were served, and of the lines of the next event only a prefix was put.
 pub record PutsTorn (x : AnswerSpec) (k : Span RunSeen) (script : Script) (s : Sinks)
     (out audit : List ℕ) : Type 0 where
   pub events : List Event
@@ -344,7 +345,7 @@ pub record PutsTorn (x : AnswerSpec) (k : Span RunSeen) (script : Script) (s : S
   pub out_text : out ≡ text ++ out_more
   pub audit_text : audit ≡ audit_lines log ++ audit_more
 
--- how serving the events of a file ends
+-- How serving the events of a file ends.
 abbrev pub ServesAs : AnswerSpec → Span RunSeen → List ℕ → Result (Unit {0}) ReplayError → Sinks
     → List ℕ → List ℕ → Type 0
 ServesAs x k bytes (Ok done) s out audit =

@@ -12,18 +12,18 @@ use jac_replies::Spelling;
 use jac_value::{Bytes, Id, Txt};
 use std::alloc::Global;
 
-/// What a dispatcher makes of the request of an `ask` line.
+/// The outcome of the request of an `ask` line.
 #[derive(Drop)]
 pub enum AskOutcome {
-    /// The line of its reply, and what follows the number in its audit line.
+    /// The line of its reply, and the audit line without its number.
     Answered { reply: Bytes, audit: Txt },
-    /// Why it wasn't answered, and who asked.
+    /// Why it wasn't answered, and the viewer.
     Unanswered { stop: Stop, viewer: Option<Id> },
 }
 
-/// Who answers requests: an application over a keeper.
+/// Answers requests for an application over a keeper.
 pub trait Dispatch {
-    /// What tells one dispatcher from another.
+    /// What distinguishes one dispatcher from another.
     ghost Of: { Type 0 };
 
     /// How its application answers.
@@ -33,7 +33,7 @@ pub trait Dispatch {
 
     fn alloc(&self) -> Global;
 
-    /// The next thing that a hub gives, whose replies are spelled so.
+    /// The next output of a hub. Its replies are spelled this way.
     fn next_out(&mut self, spelling: Spelling, hub: &mut Hub) -> Option<HubOut>
         requires { MayServe answer_spec (seen self.old) }
         ensures next { Nexts IsTaken (Handles spelling (answer_spec (seen self.old).of))
@@ -59,7 +59,7 @@ pub trait Dispatch {
             method.now path.now query.now body.now) result }
         ensures keeps { KeepsDispatcher answer_spec (seen self.old) (seen self.new) };
 
-    /// A law: what serves a dispatcher may rest on how its application answers.
+    /// A law: how the application answers has the properties on which serving depends.
     fn lawful(&self)
         ensures { IsAnswerSpec (answer_spec (seen self.now).of) };
 }

@@ -1,5 +1,4 @@
-//! Events of a text are taken by a hub, over any dispatcher that answers requests, and what it
-//! gives is put in order: the audit's line first, and then the reply.
+//! Takes events one after another. It writes each audit line before its reply.
 #![tactic(auto)]
 
 mod dispatcher;

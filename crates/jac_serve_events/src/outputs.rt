@@ -1,4 +1,4 @@
-//! What a hub gives is told, one after another: the audit's line first, and then the reply.
+//! Writes what a hub gives, one output after another: the audit line first, and then the reply.
 ghost use Rattle.std.specs.Prelude.{◌≡◌, ◌≤◌, ◌<◌, ◌+◌, ◌-◌, ◌^◌, IfOk};
 ghost use Rattle.jac_hub.specs.Hub.{hub_seen, puts_left};
 ghost use Rattle.jac_serve_events.specs.Dispatcher.{MayServe, KeepsDispatcher, kept};
@@ -12,7 +12,7 @@ use crate::reply_writer::ReplyWriter;
 use jac_hub::{Hub, HubOut, Sent};
 use jac_io::{AuditSink, Failed};
 
-/// What an event brought so far: the count of replies by then, and whether its connection was
+/// What an event has brought so far: the count of replies up to now, and whether its connection was
 /// closed.
 #[derive(Clone, Copy, PartialEq, Eq)]
 pub struct EventOutcome {
@@ -20,23 +20,23 @@ pub struct EventOutcome {
     pub closed: bool,
 }
 
-/// Where a put failed.
+/// The sink on which a put failed.
 #[derive(Clone, Copy, PartialEq, Eq)]
 pub enum FailedSink {
-    /// Where replies are told.
+    /// The sink of replies.
     Out,
     Audit,
 }
 
-/// Why not all that an event brings was told: where the put failed, and the number of the reply
-/// that it was for, or of the next one.
+/// Why not all that an event brings was written: the sink that failed, and the number of the reply
+/// for which it failed, or of the next one.
 #[derive(Clone, Copy, PartialEq, Eq)]
 pub struct WriteFailure {
     pub lost: FailedSink,
     pub count: u64,
 }
 
-// The audit's line of the k-th reply.
+// Puts the audit line of the k-th reply.
 fn put_line<U: AuditSink>(audit: &mut U, k: u64, sent: &Sent) -> Result<(), Failed>
     ensures { IsPut (span (U.seen audit.old) (U.seen audit.new)) (sent_audit k sent.now) result }
 {
@@ -73,7 +73,7 @@ fn write_unaudited<T: ReplyWriter>(writer: &mut T, conn: u32, sent: &Sent) -> Re
     }
 }
 
-// The k-th reply, and before it its line on the audit.
+// Puts the audit line of the k-th reply, and then the reply.
 fn write_audited<T: ReplyWriter, U: AuditSink>(
     writer: &mut T,
     audit: &mut U,
@@ -95,7 +95,7 @@ fn write_audited<T: ReplyWriter, U: AuditSink>(
     }
 }
 
-// What a hub gives, after what was told so far.
+// Writes one output of a hub, after what was written so far.
 fn write_out<T: ReplyWriter, U: AuditSink>(
     writer: &mut T,
     audit: &mut U,
@@ -128,7 +128,7 @@ fn write_out<T: ReplyWriter, U: AuditSink>(
     }
 }
 
-/// Tells what a hub gives for its last event, after so many replies.
+/// Writes what a hub gives for its last event, after `served` replies.
 pub fn put_given<D: Dispatch, T: ReplyWriter, U: AuditSink>(
     dispatcher: &mut D,
     served: u64,

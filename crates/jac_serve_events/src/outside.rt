@@ -1,10 +1,10 @@
-//! Puts, of which each names its bytes.
+//! Puts with contracts that name the bytes that were put.
 ghost use Rattle.std.specs.Prelude.{◌≡◌, ◌++◌, ℕ, List, Result};
 ghost use Rattle.jac_serve_events.specs.Outside.{IsPut, span};
 
 use jac_io::{Failed, Sink};
 
-/// One put, whose bytes are named also where the sink tells nothing.
+/// One put. Its bytes are named even if the contents of the sink aren't known.
 pub fn put<S: Sink>(sink: &mut S, bytes: &[u8]) -> Result<(), Failed>
     ensures { IsPut (span (S.seen sink.old) (S.seen sink.new)) bytes.now result }
 {
@@ -14,7 +14,7 @@ pub fn put<S: Sink>(sink: &mut S, bytes: &[u8]) -> Result<(), Failed>
     }
 }
 
-/// Puts two pieces, as one.
+/// Puts two pieces as one.
 pub fn put_two<S: Sink>(sink: &mut S, first: &[u8], second: &[u8]) -> Result<(), Failed>
     ensures { IsPut (span (S.seen sink.old) (S.seen sink.new)) (first.now ++ second.now) result }
 {
@@ -27,7 +27,7 @@ pub fn put_two<S: Sink>(sink: &mut S, first: &[u8], second: &[u8]) -> Result<(),
     }
 }
 
-/// Puts three pieces, as one.
+/// Puts three pieces as one.
 pub fn put_three<S: Sink>(
     sink: &mut S,
     first: &[u8],
@@ -46,7 +46,7 @@ pub fn put_three<S: Sink>(
     }
 }
 
-/// Puts four pieces, as one.
+/// Puts four pieces as one.
 pub fn put_four<S: Sink>(
     sink: &mut S,
     first: &[u8],
@@ -66,7 +66,7 @@ pub fn put_four<S: Sink>(
     }
 }
 
-/// Puts five pieces, as one.
+/// Puts five pieces as one.
 pub fn put_five<S: Sink>(
     sink: &mut S,
     first: &[u8],

@@ -1,4 +1,4 @@
-//! What is put for a request of an `ask` line: the audit's line first, and then the reply.
+//! What is put for the request of an `ask` line: the audit line first, and then the reply.
 ghost use Rattle.std.specs.Prelude.{◌++◌, None, decimal};
 ghost use Rattle.jac_http.specs.Replies.{status_of_fixed};
 ghost use Rattle.jac_replies.specs.Spelled.{audit_text};
@@ -14,7 +14,7 @@ use jac_io::{AuditSink, Failed, Sink};
 use jac_replies::{failed_reply, fixed_of, still_status, viewer_bytes};
 use jac_value::Id;
 
-/// The lines of the k-th reply, which is to the request of an `ask` line with this method.
+/// Puts the lines of the k-th reply, to the request of an `ask` line with this method.
 pub fn put_asked<O: Sink, U: AuditSink>(
     out: &mut O,
     audit: &mut U,
@@ -41,7 +41,7 @@ pub fn put_asked<O: Sink, U: AuditSink>(
     }
 }
 
-// The lines of the k-th reply, of which the audit's is given after its number.
+// Puts the lines of the k-th reply. `rest` is the audit line without its number.
 fn put_lines<O: Sink, U: AuditSink>(
     out: &mut O,
     audit: &mut U,
@@ -61,7 +61,7 @@ fn put_lines<O: Sink, U: AuditSink>(
     }
 }
 
-/// The audit's line of the k-th reply, which is given after its number.
+/// Puts the audit line of the k-th reply. `rest` is the line without its number.
 pub fn put_numbered<U: AuditSink>(audit: &mut U, k: u64, rest: &[u8]) -> Result<(), Failed>
     ensures { IsPut (span (U.seen audit.old) (U.seen audit.new)) (decimal k ++ rest.now) result }
 {
@@ -70,7 +70,7 @@ pub fn put_numbered<U: AuditSink>(audit: &mut U, k: u64, rest: &[u8]) -> Result<
     put_two(audit, number.as_bytes(), rest)
 }
 
-// The line of a reply, and the audit's of a request that wasn't answered.
+// Puts the reply and the audit line of a request that wasn't answered.
 fn put_failed<O: Sink, U: AuditSink>(
     out: &mut O,
     audit: &mut U,
@@ -92,7 +92,7 @@ fn put_failed<O: Sink, U: AuditSink>(
     }
 }
 
-/// The audit's line of a request that wasn't answered.
+/// Puts the audit line of a request that wasn't answered.
 pub fn put_failed_audit<U: AuditSink>(
     audit: &mut U,
     k: u64,

@@ -1,4 +1,4 @@
-//! Where what a hub gives is told: in a text, or on a link.
+//! Where the outputs of a hub are written: in a text, or on a link.
 ghost use Rattle.std.specs.Prelude.{◌≡◌, true, false, None, [], OnErr};
 ghost use Rattle.jac_http.specs.Replies.{reply_bytes, status_of_fixed};
 ghost use Rattle.jac_replies.specs.Spelled.{spelled_bytes};
@@ -14,12 +14,12 @@ use jac_http::Fixed;
 use jac_io::{Failed, Sink};
 use jac_replies::{Spelling, still_text};
 
-/// Where what a hub gives is told.
+/// Where the outputs of a hub are written.
 pub trait ReplyWriter {
-    /// What tells one from another.
+    /// What distinguishes one writer from another.
     ghost Of: { Type 0 };
 
-    /// What stays as things are told.
+    /// What writing doesn't change.
     ghost Rest: { Type 0 };
 
     /// How it spells what is sent on a connection.
@@ -30,19 +30,19 @@ pub trait ReplyWriter {
     fn spelling(&self) -> Spelling
         ensures { result ≡ spells };
 
-    /// Tells a reply that is spelled so.
+    /// Writes a reply in this spelling.
     fn write(&mut self, reply: &[u8]) -> Result<(), Failed>
         ensures put { IsPut (span (seen self.old).sink (seen self.new).sink) reply.now result }
         ensures stays { KeepsRest (seen self.old) (seen self.new) };
 
-    /// Tells a reply that is made without memory.
+    /// Writes a constant reply, which needs no memory.
     fn still(&mut self, conn: u32, status: Fixed, head: bool) -> Result<(), Failed>
         ensures put { IsPut (span (seen self.old).sink (seen self.new).sink)
             (spelled_bytes spells conn
             (reply_bytes (status_of_fixed status) None None [] false head true)) result }
         ensures stays { KeepsRest (seen self.old) (seen self.new) };
 
-    /// Tells that the connection was closed, where that is told.
+    /// Writes that the connection was closed, if the spelling has a line for that.
     fn closed(&mut self, conn: u32) -> Result<(), Failed>
         ensures put { IsPut (span (seen self.old).sink (seen self.new).sink)
             (closed_on spells conn) result }

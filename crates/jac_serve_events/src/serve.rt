@@ -1,4 +1,4 @@
-//! The events of a text are served, line by line.
+//! Serves the events of a text, line by line.
 ghost use Rattle.std.specs.Prelude.{◌≡◌, ◌≤◌, ◌<◌, ◌+◌, ◌^◌, IfOk, length};
 ghost use Rattle.jac_events.specs.Lines.{line_of};
 ghost use Rattle.jac_hub.specs.Hub.{hub_seen, IsOfConnection};
@@ -31,12 +31,12 @@ pub enum EventFault {
 #[derive(Clone, Copy, PartialEq, Eq)]
 pub enum ReplayError {
     Refused(EventFault),
-    /// A put failed.
+    /// A write failed.
     Write,
     Memory,
 }
 
-// Has a hub take the event of a connection, which stands on this line.
+// Lets a hub take the event of a connection, which is on this line.
 fn take_event(alloc: Global, hub: &mut Hub, line: u64, event: &Event) -> Result<(), ReplayError>
     requires idle { (hub_seen hub.old).turn ≡ Idle }
     requires connection { IsOfConnection event.now }
@@ -92,7 +92,7 @@ fn serve_connection<D: Dispatch, O: Sink, U: AuditSink>(
     }
 }
 
-// Serves an event; the count of replies by then.
+// Serves an event, and returns the count of replies up to now.
 fn serve_event<D: Dispatch, O: Sink, U: AuditSink>(
     dispatcher: &mut D,
     served: u64,
@@ -133,7 +133,7 @@ fn serve_event<D: Dispatch, O: Sink, U: AuditSink>(
     }
 }
 
-// Serves the line of this number; the count of replies by then.
+// Serves the line with this number, and returns the count of replies up to now.
 fn serve_line<D: Dispatch, O: Sink, U: AuditSink>(
     dispatcher: &mut D,
     served: u64,
