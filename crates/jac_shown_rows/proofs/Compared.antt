@@ -20,7 +20,7 @@ use Rattle.jac_shown_rows.specs.Local.{is_free_model, is_free_place, is_local}
 use Rattle.jac_shown_rows.specs.RecordIds.{first_bound, kept_ids}
 use Rattle.jac_shown_rows.proofs.Names.{look-found}
 
--- what follows of what is there, if anything is
+-- What follows from a value, if there is one.
 pub if_some : {T : Type 0} → (o : Option T) (P Q : T → Type 0) → ((x : T) → P x → Q x) → IfSome o P → IfSome o Q
 if_some None P Q f h = tt
 if_some (Some x) P Q f h = f x h
@@ -28,7 +28,7 @@ if_some (Some x) P Q f h = f x h
 text_is_itself : (a : List ℕ) → same_text a a ≡ true
 text_is_itself a = (slice_eq-Decides Decides-eqb a a _ refl).1 refl
 
--- the field of these names, of the record to which the name is bound
+-- The field with these names, of the record to which the name is bound.
 pub field_of_bound : (models : List Entity) (name model field : List ℕ) (of : Expression) (o : Option Column) → of ≡ Expression.name name →
     IfSome o (λ c. c.model < length c.app.now.models) → IfSome o (λ c. c.field < length (fields_at (application_of c.app.now).models c.model)) →
     IfSome o (λ c. Some c.model ≡ model_place models model) →
@@ -48,12 +48,12 @@ field_of_bound models name model field of (Some c) named m f place read =
       within = record { model = m; field = f };
     }
 
--- with or without one more in front of them
+-- The rest, with or without one more in front of it.
 pub kept_if : {T : Type 0} → (b : Bool) (x : T) (xs : List T) → (if b then x ∷ xs else xs) ≡ (if b then x ∷ [] else []) ++ xs
 kept_if true x xs = refl
 kept_if false x xs = refl
 
--- one id more, if the value is true
+-- One more id, if the value is true.
 pub compared_more : (f : ℕ → Value) (done new : List ℕ) (j : ℕ) (left rest total : List ℕ) → left ≡ j ∷ rest →
     new ≡ done ++ (if is_true (f j) then j ∷ [] else []) →
     done ++ ids_compared f left ≡ total → new ++ ids_compared f rest ≡ total
@@ -65,7 +65,7 @@ compared_more f done new j left rest total first pushed so_far =
     ∙ ap (λ l. done ++ ids_compared f l) (sym first)
     ∙ so_far
 
--- the ids at which the condition is true, where it is the comparison
+-- The ids for which the condition is true, if it is the comparison.
 pub compared_kept : (bs : List Binder) (cond : List Binding → Value) (env : List Binding) (f : ℕ → Value) (js : List ℕ) →
     ((j : ℕ) → cond (env ++ first_bound bs (value.Ref (Some j))) ≡ f j) → ids_compared f js ≡ kept_ids bs cond env js
 compared_kept bs cond env f [] h = refl

@@ -1,4 +1,4 @@
--- Labels that are only added, and assignments that show the same of them.
+-- Labels that are only added, and assignments that agree on them.
 use Rattle.std.proofs.Common.{◌≡◌, refl, ◌∙◌, ◌==◌, ◌||◌, subst, sym, ℕ, Bool, true, List}
 use Rattle.std.proofs.lemmas.Bool.{or_right}
 use Rattle.jac_world.specs.World.{shown_by, holds, names}
@@ -14,11 +14,11 @@ grows_then r s t before after = record { kept = λ k h. after.kept k (before.kep
 pub agrees_same : (support : List ℕ) (v : ℕ → Bool) → Agrees support v v
 agrees_same support v = record { each = λ k h. refl }
 
--- what agrees on more labels agrees on fewer
+-- What agrees on more labels agrees on fewer.
 pub agrees_less : (v w : ℕ → Bool) (old new : List ℕ) → Grows old new → Agrees new v w → Agrees old v w
 agrees_less v w old new grows agree = record { each = λ k h. agree.each k (grows.kept k h) }
 
--- a guard whose labels were consulted holds under both assignments, or under neither
+-- A guard whose labels were consulted holds under both assignments, or under neither.
 pub holds_alike : (v w : ℕ → Bool) (support : List ℕ) (g : List (ℕ × Bool)) → ((k : ℕ) → names g k ≡ true → shown_by support k ≡ true) →
     Agrees support v w → holds v g ≡ holds w g
 holds_alike v w support g consulted agree = by_names g v w (λ k named. agree.each k (consulted k named))

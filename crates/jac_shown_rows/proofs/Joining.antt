@@ -29,7 +29,7 @@ ids_asked w (r ∷ rows) =
     ∙ ap (λ l. (if holds w r.guard then r.id ∷ [] else []) ++ l) (ids_asked w rows)
     ∙ sym (id_if (holds w r.guard) r.id (asked_at w None rows))
 
--- the ids of the rows, where those at the front count as one
+-- The ids of the rows, if those at the front count as one.
 pub ids_joined : (w : ℕ → Bool) (guard : List (ℕ × Bool)) (r : Row) (more behind : List Row) → asked_at w None (r ∷ more) ≡ asked_where w guard None r ++ asked_at w None behind →
     row_ids (rows_at w (r ∷ more)) ≡ (if holds w guard then r.id ∷ [] else []) ++ row_ids (rows_at w behind)
 ids_joined w guard r more behind one =
@@ -38,12 +38,12 @@ ids_joined w guard r more behind one =
     ∙ id_if (holds w guard) r.id (asked_at w None behind)
     ∙ ap (λ l. (if holds w guard then r.id ∷ [] else []) ++ l) (sym (ids_asked w behind))
 
--- the first that is of the record
+-- The first one that is of the record.
 abbrev first_of : ℕ → List (ℕ × Option Value) → Option (ℕ × Option Value)
 first_of id [] = None
 first_of id (p ∷ ps) = if p.0 == id then Some p else first_of id ps
 
--- what the record of this id answers
+-- The answer of the record with this id.
 abbrev pub answer_of : Option ℕ → Option PlainRow → Option (ℕ × Option Value)
 answer_of field o = option_map (λ (r : PlainRow). asked_alternative field r.id r.cells) o
 
@@ -70,7 +70,7 @@ first_where false false id field r rest e = refl
 first_where true true id field r rest e = rw (asked_id field r.id r.cells, e) refl
 first_where true false id field r rest e = rw (asked_id field r.id r.cells, e) refl
 
--- the record's answer, where those at the front count as one
+-- The record's answer, if the alternatives at the front count as one.
 pub answer_joined : (w : ℕ → Bool) (id : ℕ) (field : Option ℕ) (guard : List (ℕ × Bool)) (r : Row) (more behind : List Row) →
     asked_at w field (r ∷ more) ≡ asked_where w guard field r ++ asked_at w field behind →
     answer_of field (record_with id (rows_at w (r ∷ more))) ≡
@@ -81,7 +81,7 @@ answer_joined w id field guard r more behind one =
     ∙ first_where (holds w guard) (r.id == id) id field r (asked_at w field behind) refl
     ∙ ap (λ o. if (r.id == id) && holds w guard then Some (asked_alternative field r.id r.cells) else o) (sym (answer_asked w id field behind))
 
--- what is passed over goes from what is left to what is done
+-- What is passed over moves from what is left to what is done.
 pub passed_on : (done new step left rest all : List ℕ) → left ≡ step ++ rest → new ≡ done ++ step → done ++ left ≡ all → new ++ rest ≡ all
 passed_on done new step left rest all parted pushed so_far =
     ap (λ l. l ++ rest) pushed ∙ append_assoc done step rest ∙ ap (λ l. done ++ l) (sym parted) ∙ so_far

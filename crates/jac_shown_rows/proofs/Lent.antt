@@ -1,4 +1,4 @@
--- The alternatives of a record that a work lends are those that it had before it was asked.
+-- The alternatives of a record that a work lends are those that it had before the call.
 use Rattle.std.proofs.Common.{◌≡◌, ◌∙◌, ap, ℕ, List}
 use Rattle.jac_value.specs.Ids.{model_of_id}
 use Rattle.jac_rows.specs.declared.row.Row.{Row}
@@ -10,7 +10,7 @@ use Rattle.jac_keep.specs.KeeperSeen.{KeeperSeen}
 use Rattle.jac_keep.specs.Records.{alternatives}
 use Rattle.jac_keep.specs.WorkState.{state_of, IsTold, IsUntouched}
 
--- the alternatives of a record in a state
+-- The alternatives of a record in a state.
 abbrev pub alternatives_in : ℕ → State → List Row
 alternatives_in id s = alternatives id (rows_of s.tables (model_of_id id))
 

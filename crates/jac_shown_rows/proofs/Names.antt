@@ -1,4 +1,4 @@
--- Names in scope, from the innermost out.
+-- Names in scope, from the innermost outwards.
 use Rattle.std.proofs.Common.{◌≡◌, refl, ap, ◌∙◌, ℕ, true, false, List, [], ◌∷◌, ◌++◌, if◌then◌else◌, pos}
 use Rattle.jac_value.specs.declared.value.Value.{Value}
 use Rattle.jac_value.specs.declared.value.Value.TheVariants as value
@@ -15,10 +15,10 @@ look-last : (all outer : List Binding) (b : Binding) (name : List ℕ) → all �
     look all name ≡ (if same_text b.name name then b.bound_to else look outer name)
 look-last all outer b name e = ap (λ bs. look bs name) e ∙ look_from-last (value.Int (pos 0)) outer b name
 
--- the last binding has the name
+-- The last binding has the name.
 pub look-found : (all outer : List Binding) (b : Binding) (name : List ℕ) → all ≡ outer ++ b ∷ [] → same_text b.name name ≡ true → look all name ≡ b.bound_to
 look-found all outer b name e same = look-last all outer b name e ∙ ap (λ c. if c then b.bound_to else look outer name) same
 
--- the last binding has another name
+-- The last binding has another name.
 pub look-passed : (all outer : List Binding) (b : Binding) (name : List ℕ) → all ≡ outer ++ b ∷ [] → same_text b.name name ≡ false → look all name ≡ look outer name
 look-passed all outer b name e other = look-last all outer b name e ∙ ap (λ c. if c then b.bound_to else look outer name) other

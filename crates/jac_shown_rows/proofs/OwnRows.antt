@@ -1,4 +1,4 @@
--- Tests of all rows, and rows whose guards name labels of one record alone.
+-- Tests of all rows, and rows whose guards name only labels of one record.
 use Rattle.std.proofs.Common.{◌≡◌, refl, ap, sym, ◌∙◌, ℕ, zero, suc, ◌<◌, ◌==◌, Bool, true, false, not, ◌||◌, if◌then◌else◌, List, [], ◌∷◌, ◌++◌, length, get_or, Option, None, Some, Result, Ok, Err, arith}
 use Rattle.std.specs.Prelude.{IfOk}
 use Rattle.std.specs.List.{list_all}
@@ -17,7 +17,7 @@ pub or_less : (a b c : Bool) → (b ≡ true → c ≡ true) → (a || b) ≡ tr
 or_less true b c h t = refl
 or_less false b c h t = h t
 
--- what one test lets pass another does
+-- What passes one test passes the other.
 pub all_less : {X : Type 0} (p q : X → Bool) → ((x : X) → p x ≡ true → q x ≡ true) → (xs : List X) → list_all p xs ≡ true → list_all q xs ≡ true
 all_less p q f [] h = refl
 all_less p q f (x ∷ xs) h = let a = and_parts (p x) (list_all p xs) h in and_from (q x) (list_all q xs) (f x a.0) (all_less p q f xs a.1)
@@ -29,7 +29,7 @@ all_if p false x xs h hs = hs
 pub all_append : {X : Type 0} (p : X → Bool) (xs ys : List X) → list_all p xs ≡ true → list_all p ys ≡ true → list_all p (xs ++ ys) ≡ true
 all_append p xs ys h g = list_all-append p xs ys ∙ and_from (list_all p xs) (list_all p ys) h g
 
--- one of them by its place
+-- One of them, by its place.
 pub all_at : {X : Type 0} (p : X → Bool) (xs : List X) (x : X) (i : ℕ) → x ≡ get_or xs i x → i < length xs → list_all p xs ≡ true → p x ≡ true
 all_at p [] x i item below h = absurd (omega (arith, below))
 all_at p (y ∷ xs) x zero item below h = ap p item ∙ (and_parts (p y) (list_all p xs) h).0
@@ -47,7 +47,7 @@ all_with_id p test (r ∷ rows) h =
 pub all_alternatives : (p : Row → Bool) (id : ℕ) (rows : List Row) → list_all p rows ≡ true → list_all p (alternatives id rows) ≡ true
 all_alternatives p id rows h = all_with_id p (λ i. i == id) rows h
 
--- supports
+-- Supports.
 
 pub own_same : (this : Option ℕ) (s : List ℕ) → IsOwn this s → IsOwn this s
 own_same this s h = h
@@ -62,7 +62,7 @@ own_with this old new label more one own = record { each = λ k s. each_if k (la
 pub rows_of_table : (this : Option ℕ) (id : ℕ) (rows : List Row) → is_own_table this rows ≡ true → are_own_rows this id rows ≡ true
 rows_of_table this id rows h = all_less (has_own_guard this) (is_own_row this id) (λ r g. or_right (not (r.id == id)) (has_own_guard this r) g) rows h
 
--- in such a table whatever is read is read so
+-- Whatever is read in such a table is read from such rows.
 pub any_read : (this : Option ℕ) (v : Value) (rows : List Row) → is_own_table this rows ≡ true → reads_own this v rows ≡ true
 any_read this (value.Int i) rows h = refl
 any_read this (value.Text t) rows h = refl
@@ -70,7 +70,7 @@ any_read this (value.Bool b) rows h = refl
 any_read this (value.Ref None) rows h = refl
 any_read this (value.Ref (Some id)) rows h = rows_of_table this id rows h
 
--- what follows of a value, if there is one
+-- What follows from a value, if there is one.
 pub if_ok : {T E : Type 0} → (r : Result T E) (P Q : T → Type 0) → ((x : T) → P x → Q x) → IfOk r P → IfOk r Q
 if_ok (Ok x) P Q f h = f x h
 if_ok (Err e) P Q f h = tt

@@ -14,11 +14,12 @@ or_none-map : (w : ℕ → Bool) (o : Option (List Row)) → rows_or_none (optio
 or_none-map w None = refl
 or_none-map w (Some t) = refl
 
--- the table of a model, projected
+-- The table of a model, projected.
 pub rows_of-project : (w : ℕ → Bool) (tables : List (List Row)) (m : ℕ) → rows_of (map (rows_at w) tables) m ≡ rows_at w (rows_of tables m)
 rows_of-project w tables m = ap rows_or_none (slice_get-map (rows_at w) tables m) ∙ or_none-map w (slice_get tables m)
 
--- the record of an id stands among the rows that are shown where the first row of the id is
+-- If the first row is of the id and is shown, it is the record. Otherwise the record is among the
+-- other rows.
 pub first_if : (w : ℕ → Bool) (id : ℕ) (r : Row) (rows : List Row) (same held : Bool) → (r.id == id) ≡ same → holds w r.guard ≡ held →
     record_with id (rows_at w (r ∷ rows)) ≡ (if same && held then Some (seen_row r) else record_with id (rows_at w rows))
 first_if w id r rows true true e h = rw (h, e) refl
@@ -36,7 +37,7 @@ alternative_if w id r alts rows true held e h same = first_if w id r alts true h
     step false = same
 alternative_if w id r alts rows false held e h same = same ∙ sym (first_if w id r rows false held e h)
 
--- a record is read from its alternatives
+-- A record is read from its alternatives.
 pub record-is : (w : ℕ → Bool) (id : ℕ) (rows : List Row) → record_with id (rows_at w (alternatives id rows)) ≡ record_with id (rows_at w rows)
 record-is w id [] = refl
 record-is w id (r ∷ rows) = alternative_if w id r (alternatives id rows) rows (r.id == id) (holds w r.guard) refl refl (record-is w id rows)

@@ -1,4 +1,4 @@
--- A field of a model, by numbers.
+-- A field of a model, given by numbers, and its value in a record.
 use Rattle.std.specs.Prelude.{List, Option, Some, None, pos}
 use Rattle.jac_value.specs.declared.value.Value.{Value}
 use Rattle.jac_value.specs.declared.value.Value.TheVariants as value
@@ -10,13 +10,13 @@ use Rattle.jac_rows.specs.Tables.{rows_of}
 use Rattle.jac_plain.specs.World.{cell_of, referred_record}
 use Rattle.jac_shown_rows.specs.declared.column.Column.{Column}
 
--- what is read where there is no cell
+-- The value that is read if there is no cell.
 abbrev pub absent_in : Column → Value
 absent_in c =
     let models = (application_of c.app.now).models in
     default_value (kind_at models (fields_at models c.model) c.field)
 
--- the field of the record that the value refers to; 0 where there is no such field
+-- The field of the record that the value refers to, or 0 if there is no such field.
 abbrev pub column_got : List (List PlainRow) → Option Column → Value → Value
 column_got tables None v = value.Int (pos 0)
 column_got tables (Some c) v = cell_of (referred_record v (rows_of tables c.model)) c.field

@@ -1,4 +1,4 @@
--- Conditions that compare a field of the first binder's record with a value that is at hand.
+-- Conditions that compare a field of the first binder's record with a known value.
 use Rattle.std.specs.Prelude.{◌≡◌, ◌<◌, ◌&&◌, ℕ, Bool, true, false, if◌then◌else◌, List, [], ◌∷◌, ◌++◌, length, Some}
 use Rattle.jac_value.specs.declared.value.Value.{Value}
 use Rattle.jac_value.specs.declared.value.Value.TheVariants as value
@@ -17,32 +17,32 @@ use Rattle.jac_shown_rows.specs.Columns.{absent_in, column_got}
 use Rattle.jac_shown_rows.specs.Local.{is_free, is_local}
 use Rattle.jac_shown_rows.specs.Seen.{app_at}
 
--- the operation, with the value as its first operand or as its second
+-- The operation, with the value as its first operand or as its second.
 abbrev pub two_with : Bool → Op → Value → Value → Value
 two_with true o v cell = two o v cell
 two_with false o v cell = two o cell v
 
--- the comparison of a record's field
+-- The comparison of a record's field.
 abbrev pub comparison_value : List (List PlainRow) → Comparison → ℕ → Value
 comparison_value tables k j = two_with k.is_first k.op k.value
     (column_got tables (Some k.column) (value.Ref (Some j)))
 
--- the same, where these are the records of the column's model
+-- The same, if these are the records of the column's model.
 abbrev pub comparison_among : List PlainRow → Comparison → ℕ → Value
 comparison_among rows k j = two_with k.is_first k.op k.value
     (cell_of (record_with j rows) k.column.field (absent_in k.column))
 
--- the ids at which the value is true
+-- The ids at which the value of `f` is true.
 abbrev pub ids_compared : (ℕ → Value) → List ℕ → List ℕ
 ids_compared f [] = []
 ids_compared f (j ∷ js) = if is_true (f j) then j ∷ ids_compared f js else ids_compared f js
 
--- the column is one of an application
+-- The column is a column of an application.
 pub record IsColumn (c : Column) : Type 0 where
   pub model : c.model < length c.app.now.models
   pub field : c.field < length (fields_at (application_of c.app.now).models c.model)
 
--- the expression is the field of the record to which the name is bound
+-- The expression is the field of the record to which the name is bound.
 pub record IsFieldOf (models : List Entity) (name : List ℕ) (e : Expression) (c : Column) : Type 0
   where
     pub means : (w : World) → w.models ≡ models → (env : List Binding) (u : Value)
@@ -50,7 +50,7 @@ pub record IsFieldOf (models : List Entity) (name : List ℕ) (e : Expression) (
     pub local : (v : Bool) → is_local models v e ≡ true → is_free models c.model ≡ true
     pub within : IsColumn c
 
--- one of the operands is such a field, and `e` is the other one
+-- One of the operands is such a field, and `e` is the other operand.
 pub record IsSideOf (models : List Entity) (name : List ℕ) (x y : Expression) (c : Column)
     (e : Expression) (is_first : Bool) : Type 0 where
   pub means : (w : World) → w.models ≡ models → (env : List Binding) (u : Value) (o : Op)
@@ -60,7 +60,7 @@ pub record IsSideOf (models : List Entity) (name : List ℕ) (x y : Expression) 
       → is_free models c.model ≡ true
   pub within : IsColumn c
 
--- the condition is the comparison, with the first binder bound as the function says
+-- The condition is the comparison if the first binder is bound as `bind` says.
 pub record IsComparison (at : WorldContext) (env : List Binding) (bind : Value → List Binding)
     (cond : Expression) (k : Comparison) : Type 0 where
   pub means : (w : World) → w.models ≡ (app_at at).models → w.this ≡ at.ctx.now.this

@@ -2,10 +2,10 @@
 use Rattle.std.specs.Prelude.{◌≡◌, ℕ, Bool, true, List}
 use Rattle.jac_world.specs.World.{shown_by}
 
--- labels are only added
+-- Labels are only added.
 pub record Grows (old new : List ℕ) : Type 0 where
   pub kept : (k : ℕ) → shown_by old k ≡ true → shown_by new k ≡ true
 
--- the assignments show the same of the labels that were consulted
+-- The assignments agree on the labels that were consulted.
 pub record Agrees (support : List ℕ) (v w : ℕ → Bool) : Type 0 where
   pub each : (k : ℕ) → shown_by support k ≡ true → v k ≡ w k

@@ -1,5 +1,5 @@
--- Local applications and local states. In a local application a policy reads only its own record of
--- the guarded ones. In a local state the rows of a record depend on its own labels.
+-- Local applications and local states: a policy reads no guarded record but its own, and the rows
+-- of a record depend only on its own labels.
 use Rattle.std.specs.Prelude.{◌≡◌, ℕ, ◌&&◌, ◌||◌, Bool, true, false, List, [], ◌∷◌, Option, Some, None, ⊤}
 use Rattle.std.specs.List.{AllByRecursion}
 use Rattle.jac_value.specs.declared.value.Kind.{Kind}
@@ -22,7 +22,7 @@ use Rattle.jac_plain.specs.Expressions.{model_of_binder}
 use Rattle.jac_plain.specs.Models.{is_none, shapes_of}
 use Rattle.jac_plain.specs.Policies.{has_group}
 
--- the model at this place has no group
+-- The model at this place has no group.
 abbrev pub is_free : List Entity → ℕ → Bool
 is_free models m = is_none (groups_at models m)
 
@@ -30,11 +30,12 @@ abbrev pub is_free_place : List Entity → Option ℕ → Bool
 is_free_place models None = true
 is_free_place models (Some m) = is_free models m
 
--- the model of this name has no group; a name that no model has has no records
+-- The model of this name has no group. A name without a model counts too, because it has no
+-- records.
 abbrev pub is_free_model : List Entity → List ℕ → Bool
 is_free_model models name = is_free_place models (model_place models name)
 
--- a value of the kind refers to no record of a model that has groups
+-- A value of this kind refers to no record of a model with groups.
 abbrev pub is_free_kind : List Entity → Kind → Bool
 is_free_kind models (kind.Ref m) = is_free models m
 is_free_kind models k = true
@@ -48,7 +49,7 @@ is_free_field_in models None field = true
 is_free_field_in models (Some m) field = is_free_field_at models m (field_place (fields_at models m)
     field)
 
--- the field of the model refers to no record of a model that has groups
+-- The field of the model refers to no record of a model with groups.
 abbrev pub is_free_field : List Entity → List ℕ → List ℕ → Bool
 is_free_field models model field = is_free_field_in models (model_place models model) field
 
@@ -56,27 +57,27 @@ abbrev pub is_free_viewer_of : List Entity → Option (List ℕ) → Bool
 is_free_viewer_of models None = false
 is_free_viewer_of models (Some name) = is_free_kind models (kind_named models (named.Ref name))
 
--- the model of those who ask has no group
+-- The model of the viewers has no group.
 abbrev pub is_free_viewer : Application → Bool
 is_free_viewer app = is_free_viewer_of app.models app.viewer
 
--- each binder ranges over a model that has no group
+-- Each binder ranges over a model without groups.
 abbrev pub are_free : List Entity → List Binder → Bool
 are_free models [] = true
 are_free models (b ∷ bs) = is_free_model models b.model && are_free models bs
 
--- the order reads a model that has no group
+-- The order reads no model with groups.
 abbrev pub is_free_order : List Entity → List Binder → Order → Bool
 is_free_order models bs orders.Key = true
 is_free_order models bs (orders.Up name field) = is_free_model models (model_of_binder bs name)
 is_free_order models bs (orders.Down name field) = is_free_model models (model_of_binder bs name)
 
--- the query ranges over models that have no group, and is sorted by one of these
+-- The query ranges over models without groups, and its order reads no model with groups.
 abbrev pub is_free_query : List Entity → List Binder → Order → Bool
 is_free_query models bs o = are_free models bs && is_free_order models bs o
 
--- what the expression is of, by its form, is no record of a model that has groups; the test says so
--- of the viewer. A name in a policy is a binder's
+-- By its form the expression refers to no record of a model with groups. For the viewer `v` says
+-- so. A name in a policy is a binder's.
 abbrev pub refers_free : List Entity → Bool → Expression → Bool
 refers_free models v Expression.this = false
 refers_free models v Expression.viewer = v
@@ -86,8 +87,8 @@ refers_free models v (Expression.first bs c o) = are_free models bs
 refers_free models v e = true
 
 abbrev mutual
-  -- each query ranges over models that have no group, each `get` reads `this` or one of these, and
-  -- each `live` is of `this` or of a record of one of these
+  -- Each query ranges over models without groups. Each `get` reads `this` or a model without
+  -- groups. Each `live` is of `this` or of a record of a model without groups.
   pub is_local : List Entity → Bool → Expression → Bool
   is_local models v (Expression.get m f e) = (is_this e || is_free_model models m) && is_local
       models v e
@@ -119,16 +120,16 @@ are_local_models models v [] = true
 are_local_models models v (m ∷ ms) = are_local_groups models v m.groups && are_local_models models v
     ms
 
--- each policy is local
+-- Each policy is local.
 abbrev pub is_local_app : Application → Bool
 is_local_app app = are_local_models app.models (is_free_viewer app) app.models
 
--- the label is one of the record's own, of a group that its model has
+-- The label is one of the record's own labels, of a group that its model has.
 pub record IsOwnLabel (app : Application) (id k : ℕ) : Type 0 where
   pub own : record_of_label k ≡ id
   pub group : has_group app k ≡ true
 
--- each row's guard names labels of its own record alone
+-- Each row's guard names only labels of its own record.
 abbrev pub IsLocalState : Application → State → Type 0
 IsLocalState app s = (m : ℕ) → AllByRecursion (λ (r : Row). (k : ℕ) → names r.guard k ≡ true
     → IsOwnLabel app r.id k) (rows_of s.tables m)
@@ -138,8 +139,8 @@ IsOfViewers models None viewer = ⊤
 IsOfViewers models (Some name) viewer = has_kind (kind_named models (named.Ref name))
     (value.Ref viewer) ≡ true
 
--- a local application over a local state that is good but for its next number, asked by one of its
--- viewers or by nobody
+-- A local application over a local state that is good except for its next number. The viewer is one
+-- of its viewers or nobody.
 pub record IsLocalCase (app : Application) (s : State) (viewer : Option ℕ) : Type 0 where
   pub policies : is_local_app app ≡ true
   pub state : IsLocalState app s

@@ -14,19 +14,20 @@ use Rattle.jac_shown_rows.specs.Consulted.{Agrees}
 use Rattle.jac_shown_rows.specs.declared.world_context.WorldContext.{WorldContext}
 use Rattle.jac_plain.specs.Shown.{world_at}
 
--- the application of an evaluation
+-- The application of an evaluation.
 abbrev pub app_at : WorldContext → Application
 app_at at = application_of at.app.now
 
--- what its expressions are read in under an assignment
+-- The world in which its expressions are evaluated under an assignment.
 abbrev pub seen_at : WorldContext → State → (ℕ → Bool) → World
 seen_at at s w = world_at at.app.now at.ctx.now s w
 
--- under each assignment that shows the same of the support, the value is the expression's
+-- Under each assignment that agrees with the evaluation's on the support, the expression has this
+-- value.
 abbrev pub MeansAt : List ℕ → WorldContext → State → Expression → List Binding → Value → Type 0
 MeansAt support at s e env v = (w : ℕ → Bool) → Agrees support (shown_by at.assignment.now) w
     → v ≡ mean (seen_at at s w) e env
 
--- a row that an assignment shows, without its guard
+-- A row that an assignment shows, without its guard.
 abbrev pub seen_row : Row → PlainRow
 seen_row r = record { id = r.id; cells = r.cells }

@@ -1,5 +1,5 @@
-//! Alternatives of a record that differ in one label's sign alone and answer alike count as one,
-//! for which that label isn't consulted.
+//! Alternatives of a record that differ only in the sign of one label and answer alike count as
+//! one. That label isn't consulted for them.
 ghost use Rattle.std.specs.Prelude.{◌≡◌, ◌≤◌, ℕ, Bool, true, [], ◌∷◌, ◌++◌, length, IfOk, IfSome};
 ghost use Rattle.std.specs.List.{list_all};
 ghost use Rattle.jac_rows.specs.declared.row.Row.{Row as GuardedRow};
@@ -12,14 +12,15 @@ use jac_value::{Memory, Value};
 use jac_world::{Guard, Label};
 use std::alloc::Global;
 
-/// The alternatives at the front of some rows that count as one: they answer as the first of them,
-/// where the guard holds. Without one of its own it is that of the first row.
+/// The alternatives at the front of some rows that count as one: they answer as the first of them
+/// if the guard holds. If `guard` is none, it is the guard of the first row. `behind` are the rows
+/// after them.
 pub struct Joined<'r> {
     pub guard: Option<Guard>,
     pub behind: &'r [Row],
 }
 
-// It is written out, so that a caller's steps don't part where there is no guard to be dropped.
+// Written out, so that a caller's proof doesn't branch if there is no guard to drop.
 impl Drop for Joined<'_> {
     fn drop(self) {
         let Joined { guard, behind: _ } = self;
@@ -30,7 +31,7 @@ impl Drop for Joined<'_> {
     }
 }
 
-/// The guard that was joined, or that of the row.
+/// The joined guard, or the guard of the row if there is none.
 pub fn guard_of<'g>(joined: &'g Option<Guard>, row: &'g Row) -> &'g Guard
     ensures { result.now ≡ joined_guard joined.now row.now }
 {
@@ -40,10 +41,10 @@ pub fn guard_of<'g>(joined: &'g Option<Guard>, row: &'g Row) -> &'g Guard
     }
 }
 
-/// As many of the alternatives, from the first on, as count as one: for a cell of this field, or
-/// for whether the record stands. No label is dropped once the guard names `least`: only a guard
-/// with as many labels as another can be joined with it, so whatever falls short ends all that
-/// depends on it, and nothing is looked at again and again.
+/// Joins as many alternatives, from the first on, as count as one: for a cell of this field, or for
+/// whether the record exists. No label is dropped from a guard of `least` labels. Only guards with
+/// equally many labels can be joined, so an attempt that falls short ends all that depend on it,
+/// and nothing is inspected repeatedly.
 #[cycle(join_alike)]
 pub(crate) fn join_alike<'r>(
     alloc: Global,
@@ -90,8 +91,8 @@ pub(crate) fn join_alike<'r>(
 }
 
 /// The alternatives at the front that count as one, as `join_alike` joins them. Two that answer
-/// alike, of which each assignment shows one, are joined without a copy of a guard, and no guard is
-/// looked at where the first two don't answer alike.
+/// alike and of which each assignment shows exactly one are joined without a copy of a guard. If
+/// the first two don't answer alike, no guard is inspected.
 pub fn join_first<'r>(
     alloc: Global,
     row: &Row,
@@ -128,7 +129,7 @@ pub fn join_first<'r>(
     join_alike(alloc, row, behind, field, 0)
 }
 
-// Whether both name one label alone, with different signs.
+// Whether both guards name only one label, the same one, with different signs.
 fn are_opposite(one: &[(Label, bool)], other: &[(Label, bool)]) -> bool
     ensures { result ≡ true → IsJoined one.now other.now [] }
 {
@@ -138,8 +139,8 @@ fn are_opposite(one: &[(Label, bool)], other: &[(Label, bool)]) -> bool
     }
 }
 
-// Whether both are alternatives of one record, with the same cell at the field, if one is asked
-// for.
+// Whether both are alternatives of one record, with the same cell at the field, if a field is
+// given.
 fn answer_alike(one: &Row, other: &Row, field: Option<u8>) -> bool
     ensures { result ≡ true → asked_alternative field one.now.id one.now.cells
         ≡ asked_alternative field other.now.id

@@ -34,7 +34,7 @@ pub fn column_named<'a>(app: &'a App, model: &Txt, field: &Txt) -> Option<Column
     }
 }
 
-// The same where the model stands at this place.
+// The same, if the model is at this place.
 fn column_in<'a>(app: &'a App, model: u8, field: &Txt) -> Option<Column<'a>>
     requires { model < length app.now.models }
     ensures model { IfSome result (λ c. c.model < length c.app.now.models) }
@@ -50,7 +50,7 @@ fn column_in<'a>(app: &'a App, model: u8, field: &Txt) -> Option<Column<'a>>
     }
 }
 
-/// What is read where there is no cell.
+/// The value that is read if there is no cell.
 pub fn absent_of(alloc: Global, column: &Column<'_>) -> Value
     requires model { column.now.model < length column.now.app.now.models }
     requires field { column.now.field < length

@@ -1,4 +1,4 @@
-//! The records of one table that are read one after another, from its rows where these are lent.
+//! Records of one table that are read one after another, from its rows if these are lent.
 ghost use Rattle.std.specs.Prelude.{◌≡◌, ℕ, Bool, true, Option, unwrap_or, IfOk, OnOk};
 ghost use Rattle.std.specs.Option.{option_copied};
 ghost use Rattle.jac_value.specs.declared.value.Value.{Value as Cell};
@@ -17,7 +17,8 @@ use jac_value::{Id, Memory, Value};
 use jac_world::Assignment;
 use std::alloc::Global;
 
-// For fewer records, or of so many rows one, each is sought by itself.
+// With fewer than `FEW` records, or fewer than one in `SPARSE` rows, each record is looked up by
+// itself.
 const FEW: usize = 8;
 
 const SPARSE: usize = 4;
@@ -27,7 +28,7 @@ pub(crate) fn are_many(ids: &[Id]) -> bool {
     ids.len() >= FEW
 }
 
-/// Whether the rows are by rising id, and not too many to be looked at for the ids.
+/// Whether the rows are ordered by rising id, and aren't too many for the number of ids.
 pub(crate) fn suit(rows: &[Row], ids: &[Id]) -> bool
     ensures { result ≡ true → AreOrdered rows.now }
 {
@@ -38,7 +39,7 @@ pub(crate) fn suit(rows: &[Row], ids: &[Id]) -> bool
 }
 
 /// The cell of the record that the assignment shows, lent, if there is one. The record is first
-/// sought behind the one that was read before it.
+/// looked for after the one that was read before it.
 pub(crate) fn cell_among<'r>(
     alloc: Global,
     rows: &'r [Row],

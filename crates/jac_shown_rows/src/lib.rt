@@ -1,5 +1,5 @@
-//! Records, names and texts in the world that one assignment shows, and conditions that compare a
-//! record's field. What is read says which labels were consulted.
+//! Reads records, and compares their fields, in the one world that an assignment shows. It reports
+//! which labels were consulted.
 #![tactic(auto, using(crate::proofs::Growing::grows_same, crate::proofs::Growing::grows_then, crate::proofs::Growing::agrees_less, crate::proofs::Growing::holds_alike))]
 
 mod alike;

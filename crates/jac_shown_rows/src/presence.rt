@@ -49,7 +49,7 @@ pub fn stand<K: Keeper>(
 }
 
 /// Whether the assignment shows the record. The labels that were consulted are added to the
-/// support: under each assignment that shows the same of the support, the answer is the same.
+/// support. Under each assignment that agrees on the support, the answer is the same.
 pub fn record_stands<K: Keeper>(
     work: &mut Work<'_, K>,
     a: &Assignment,

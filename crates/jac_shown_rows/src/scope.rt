@@ -23,7 +23,7 @@ pub fn look_up(alloc: Global, env: &[Binding], name: &Txt) -> Result<Value, Memo
     }
 }
 
-/// What a name is bound to, lent, if the expression is a name that is bound.
+/// The value of the name, lent, if the expression is a bound name.
 pub fn bound_value<'e>(env: &'e [Binding], e: &Expr) -> Option<&'e Value>
     ensures { IfSome result (λ v. (w : World)
         → v.now ≡ mean w (expression_of e.now) env.now) }

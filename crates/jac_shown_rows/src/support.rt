@@ -9,17 +9,17 @@ use jac_world::{Assignment, Label, add_among, is_among};
 use std::alloc::Global;
 use std::marker::Model;
 
-/// The labels that were consulted, by rising number. None is taken away. What was found stays right
-/// under each assignment that shows the same of them.
+/// The labels that were consulted, by rising number. Labels are only added. What was found is right
+/// under each assignment that agrees on them.
 ///
-/// Labels are mostly consulted by rising number, or once more. So each is first sought where the
-/// one before it stands. No answer depends on that place.
+/// Labels are mostly consulted by rising number, or repeatedly. So each is first looked for at the
+/// place of the one before it. No answer depends on that place.
 #[derive(Drop)]
 pub struct Support {
     labels: Vec<Label>,
-    // where the last label stands that was consulted before
+    // The place of the label that was consulted last.
     last: usize,
-    // where in an assignment the last label stands that was found there
+    // The place, in an assignment, of the label that was found last.
     near: usize,
 }
 
@@ -59,7 +59,7 @@ impl Support {
         is_among(self.as_slice(), label)
     }
 
-    /// The same labels and this one.
+    /// Adds this label.
     pub fn add(&mut self, label: Label) -> Result<(), Memory>
         ensures added { OnOk result ((k : ℕ)
             → shown_by self.new k ≡ (label == k || shown_by self.old k)) }
@@ -77,7 +77,7 @@ impl Support {
     }
 }
 
-// The same labels and this one, which is first sought at the place.
+// Adds this label. It is first looked for at the place.
 fn add_near(labels: &mut Vec<Label>, label: Label, last: &mut usize) -> Result<(), Memory>
     requires { IsAscending labels.old.items }
     ensures added { OnOk result ((k : ℕ) → shown_by labels.new.items k
@@ -91,7 +91,7 @@ fn add_near(labels: &mut Vec<Label>, label: Label, last: &mut usize) -> Result<(
     add_label(labels, label)
 }
 
-// Whether the label is among the labels. One above them all isn't sought.
+// Whether the label is among the labels. A label above all of them isn't looked for.
 fn was_consulted(labels: &[Label], label: Label, last: &mut usize) -> bool
     requires { IsAscending labels.now }
     ensures { result ≡ true → shown_by labels.now label ≡ true }
@@ -122,8 +122,8 @@ fn add_label(labels: &mut Vec<Label>, label: Label) -> Result<(), Memory>
     }
 }
 
-/// Whether the guard of these pairs holds. All its labels are consulted: under each assignment that
-/// shows the same of the support, the answer is the same.
+/// Whether the guard of these pairs holds. All its labels are consulted. Under each assignment that
+/// agrees on the support, the answer is the same.
 pub fn consult(
     pairs: &[(Label, bool)],
     assignment: &Assignment,
@@ -142,7 +142,7 @@ pub fn consult(
     Ok(support.meets(pairs, assignment))
 }
 
-// Whether the guard of these pairs holds. A label alone is sought near the place first.
+// Whether the guard of these pairs holds. A single label is first looked for near the place.
 fn are_met(pairs: &[(Label, bool)], assignment: &Assignment, near: &mut usize) -> bool
     ensures { result ≡ holds (shown_by assignment.now) pairs.now }
 {
@@ -158,8 +158,8 @@ fn are_all_met(pairs: &[(Label, bool)], assignment: &Assignment) -> bool
     pairs.iter().all(|pair| pair.1 == assignment.shows(pair.0))
 }
 
-// Whether the label is among those that are shown: at the place, behind it, or by bisection. The
-// place is then where it stands.
+// Whether the label is among those that are shown. It is looked for at the place, then after it,
+// then by bisection. If it is found, `near` is then its place.
 fn is_shown(shown: &[Label], label: Label, near: &mut usize) -> bool
     requires { IsAscending shown.now }
     ensures { result ≡ shown_by shown.now label }

@@ -29,7 +29,7 @@ pub fn spell(alloc: Global, value: &Value) -> Result<Value, Memory>
     Ok(Value::Text(text))
 }
 
-/// The first part and those after it, where there are any.
+/// The first part and those after it, if there are any.
 pub fn split_first(parts: &Exprs) -> Option<(&Expr, &Exprs)>
     ensures cases { MatchOption result (expressions_of parts.now ≡ Expressions.none)
         (λ p. expressions_of parts.now ≡ Expressions.more (expression_of p.0.now)
@@ -43,7 +43,7 @@ pub fn split_first(parts: &Exprs) -> Option<(&Expr, &Exprs)>
     }
 }
 
-/// Adds the text after those before it.
+/// Appends the text.
 pub fn push_text(joined: &mut String, value: &Value) -> Result<(), Memory>
     ensures { OnOk result (string_bytes joined.new ≡ string_bytes joined.old ++ bytes_of
         value.now) }

@@ -2,7 +2,7 @@ use jac_lang::App;
 use jac_plain::Ctx;
 use jac_world::Assignment;
 
-/// What stays the same through an evaluation: the application, what an expression is read in, and
+/// What stays the same during an evaluation: the application, the context of the expressions, and
 /// the assignment that shows the world.
 #[derive(Clone, Copy)]
 pub struct WorldContext<'a> {

@@ -7,7 +7,7 @@ use Rattle.jac_shown_rows.proofs.alike.+join_alike.Given as goal
 abbrev pub decreases-join_alike : goal.decreases-join_alike
 decreases-join_alike l = length l.behind.now
 
--- the alternatives that were passed over count as one with the first
+-- The alternatives that were passed over count as one with the first.
 abbrev pub invariant-alike : goal.invariant-alike
 invariant-alike l =
     record {

@@ -9,7 +9,8 @@ use Rattle.jac_shown_rows.specs.Own.{IsOwn, is_own_table}
 use Rattle.jac_shown_rows.proofs.Working.{LoopOver}
 use Rattle.jac_shown_rows.proofs.comparison.keep_each.Given as goal
 
--- the ids kept so far, before those of the ids that are left, are all that are kept
+-- The ids kept so far, followed by those that are kept of the ids that are left, are all that are
+-- kept.
 abbrev pub invariant-ids : goal.invariant-ids
 invariant-ids g l =
     let k = g.K.Keeper in

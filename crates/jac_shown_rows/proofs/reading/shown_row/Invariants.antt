@@ -7,7 +7,7 @@ use Rattle.jac_shown_rows.specs.Own.{IsOwn, are_own_rows}
 use Rattle.jac_shown_rows.proofs.Joining.{answer_of}
 use Rattle.jac_shown_rows.proofs.reading.shown_row.Given as goal
 
--- no row before those that are left is the record's
+-- No row before those that are left is the record's.
 abbrev pub invariant-rows : goal.invariant-rows
 invariant-rows l =
     record {

@@ -4,7 +4,7 @@ use Rattle.jac_shown_rows.specs.Consulted.{Grows}
 use Rattle.jac_shown_rows.specs.Own.{IsOwn, names_own}
 use Rattle.jac_shown_rows.proofs.support.add_labels.Given as goal
 
--- a label of the guard was consulted, or is left
+-- Each label of the guard was consulted or is left.
 abbrev pub invariant-pairs : goal.invariant-pairs
 invariant-pairs l =
     record {
