@@ -1,4 +1,4 @@
--- What is spelled is read again.
+-- Reading the bytes of guards and cells gives the same guards and cells.
 use Rattle.std.proofs.Common.{◌≡◌, refl, sym, ap, ap₂, subst, ◌∙◌, ℕ, zero, suc, ℤ, ◌+◌, ◌*◌, ◌/◌, ◌%◌, ◌^◌, ◌<◌, ◌≤◌, ◌==◌, Bool, true, false, List, [], ◌∷◌, ◌++◌, length, take, drop, fold, append_assoc, append-nil, length-append, Some, None, arith}
 use Rattle.std.specs.List.{AllByRecursion}
 use Rattle.std.proofs.Math.Nat.{pow-suc, div-div-eq-div-mul, div-one, div-eq_of_lt}
@@ -105,7 +105,7 @@ cell_again (values.Ref (Some id)) rest is narrow =
     let number : number_in (take 16 (bytes_high_first 16 id ++ rest)) ≡ id = number_front 16 id rest (omega (arith, narrow)) in
     λ j. (values.Ref (Some (number j)), bytes_dropped 16 id rest j)
 
--- no cell is without bytes
+-- The bytes of a cell aren't empty.
 some_bytes : (v : Value) (rest : List ℕ) → 0 < length (cell_bytes v ++ rest)
 some_bytes (values.Int i) rest = one_at_least 1 (bytes_high_first 8 (cast_unsigned w64 i) ++ rest)
   where

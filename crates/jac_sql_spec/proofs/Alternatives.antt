@@ -1,4 +1,4 @@
--- The facts of one table, and of one record.
+-- The facts of one table, and those of one record.
 use Rattle.std.proofs.Common.{◌≡◌, ◌≢◌, ◌⊎◌, inl, inr, refl, sym, ap, ap₂, subst, ◌∙◌, ℕ, zero, suc, ◌+◌, ◌^◌, ◌<◌, ◌==◌, Bool, true, false, ◌&&◌, cond, if◌then◌else◌, List, [], ◌∷◌, filter, arith, nat_cmp, is_eq}
 use Rattle.std.specs.List.{AllByRecursion}
 use Rattle.std.specs.Cmp.Lexicographic.{slice_cmp}
@@ -12,7 +12,7 @@ use Rattle.jac_sql_spec.specs.Facts.{Fact, fact_of, id_bytes, count_with, none_y
 use Rattle.jac_sql_spec.proofs.IdOrder.{cases_same, same_id, other_id}
 use Rattle.jac_sql_spec.proofs.FactLaws.{facts_in}
 
--- a table among tables
+-- One of the tables.
 pub table_placed : (first k model : ℕ) (tables : List (List Row)) → model ≡ first + k → ArePlacedFrom first tables → AreOrdered (rows_of tables k) × AllByRecursion (IsPlaced model) (rows_of tables k)
 table_placed first zero model [] is kept = (tt, tt)
 table_placed first (suc k) model [] is kept = (tt, tt)
@@ -31,7 +31,7 @@ two_tests model id (f ∷ fs) = go (is_fact_in model f) (two_tests model id fs)
     go true more = ap (λ l. cond (has_jid id f) (f ∷ l) l) more
     go false more = more
 
--- the alternatives of a record are numbered as in its table
+-- The alternatives of a record are numbered as in its table.
 of_record : (model id : ℕ) (c d : ℕ → ℕ) (rows : List Row) → id < 2 ^ 128 → c id ≡ d id → AllByRecursion (IsPlaced model) rows → filter (has_jid id) (numbered_facts model c rows) ≡ numbered_facts model d (alternatives id rows)
 of_record model id c d [] space same placed = refl
 of_record model id c d (r ∷ rs) space same placed = elim (cases_same r.id id) [

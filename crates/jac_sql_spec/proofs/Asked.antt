@@ -1,4 +1,4 @@
--- What the number's text finds.
+-- What the query for the number and the schema finds.
 use Rattle.std.proofs.Common.{◌≡◌, ℕ, pos, List, [], ◌∷◌, map, Ok, Err, Result, refl, sym, ap, subst, ◌∙◌}
 use Rattle.std.specs.List.Sorted.{IsPermutation}
 use Rattle.sqlite_value.specs.declared.value.Value.TheVariants.{Null, Int, Text}
@@ -13,7 +13,7 @@ use Rattle.sqlite.proofs.Callers.{first_as, one_permutation}
 use Rattle.jac_sql_spec.specs.Tables.{two_tables, meta_row}
 use Rattle.jac_sql_spec.proofs.Texts.{number_text, number_query, number_is, number_plain}
 
--- it finds what the one row has after its key
+-- The query finds what follows the key in the one row.
 pub asks_of : (old new : State) (number schema : Value) (row : Row) → old.now.schema ≡ two_tables 0 1 2
     → old.now.trees 0 ≡ (Int (pos 0) ∷ Null ∷ number ∷ schema ∷ []) ∷ [] → QueriesRow number_text [] old new (Ok row) → row ≡ number ∷ schema ∷ []
 unfolding QueriesRow binary

@@ -1,4 +1,4 @@
--- Whole records, and a whole change but for its number.
+-- The statements that replace whole records, which are all of a change but its number.
 use Rattle.std.proofs.Common.{◌≡◌, ◌≢◌, ◌⊎◌, inl, inr, ℕ, zero, suc, ◌+◌, ◌<◌, ◌^◌, ◌==◌, Bool, true, false, if◌then◌else◌, List, [], ◌∷◌, ◌++◌, length, append_assoc, append-nil, Ok, refl, sym, ap, ap₂, subst, ◌∙◌, arith}
 use Rattle.std.specs.List.{AllByRecursion}
 use Rattle.std.proofs.lemmas.Bool.{cases_lt}
@@ -25,7 +25,7 @@ use Rattle.jac_sql_spec.specs.Stands.{AreNarrow}
 use Rattle.jac_sql_spec.proofs.IdOrder.{cases_same}
 use Rattle.jac_sql_spec.proofs.Written.{removed, added}
 
--- ---- tables after an alteration are such tables too
+-- ---- the tables after an alteration are in order too
 
 all_of_id : (id : ℕ) (rows : List Row) → id < 2 ^ 128 → AreOf id rows → AllByRecursion (IsPlaced (model_of_id id)) rows
 all_of_id id [] room own = tt
@@ -101,13 +101,13 @@ module _ {S : Type 0} (g : Ghosts S) (schema : List ℕ) where
       (each_added id (xs ++ r ∷ []) rest (alt + 1) ran.0 b s (ap (λ n. n + 1) at ∙ sym (long_push xs r)) (own_push id xs r own more.0) more.1 within ran.3
       (one_added id xs r a ran.0 s own more.0 within one st))
 
-  -- a record is replaced whole
+  -- A record is replaced.
   pub replaced : (x : Alteration) (a b : Held S) (s : State) → x.id < 2 ^ 128 → AreOf x.id x.rows → model_of_id x.id < length s.tables → AreKept s.tables
       → Ran g (replacement x) a b → StandsIn a s → StandsIn b (state_with x.id x.rows s)
   replaced x a b s room own within kept ran st =
       each_added x.id [] x.rows 0 ran.0 b s refl tt own within ran.3 (one_removed x.id a ran.0 s room kept (ran.0, ran.1, ran.2, refl) st)
 
-  -- several records, one after another
+  -- Several records are replaced, one after another.
   pub replaced_each : (xs : List Alteration) (a b : Held S) (s : State) → AreNarrow xs → AreOwn xs → ArePlaced xs (length s.tables) → AreKept s.tables
       → Ran g (replacements xs) a b → StandsIn a s → StandsIn b (record s { tables = overlaid xs s.tables })
   replaced_each [] a b s narrow own within kept ran st =

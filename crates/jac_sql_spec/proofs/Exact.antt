@@ -1,4 +1,4 @@
--- What is read is the state's, and what a change leaves is the changed state.
+-- What is read is what the state has, and a change leaves the changed state.
 use Rattle.std.proofs.Common.{◌≡◌, refl, sym, ap, ap₂, subst, ◌∙◌, ℕ, ◌+◌, ◌<◌, ◌^◌, ◌==◌, pos, Bool, true, false, cond, List, [], ◌∷◌, ◌++◌, map, length, Ok, arith}
 use Rattle.std.specs.List.{AllByRecursion}
 use Rattle.sqlite_trees.specs.declared.store.Store.{Ghosts}
@@ -102,7 +102,7 @@ module _ {S : Type 0} (g : Ghosts S) (schema : List ℕ) (old new : Held S) (s :
         record_rows model id kinds none_yet (alternatives id all) rows (own_ids id all) (all-with_id IsSpelled (λ i. i == id) all (rows_spelled s.tables model spelled))
         (subst (λ f. Each (IsRecordRow id kinds) f rows) found are.each)
 
-  -- one transaction of a change
+  -- One transaction of a change.
   pub change_exact : (c : Change) (db : Database) → AreNarrow c.changed → AreOwn c.changed → ArePlaced c.changed (length s.tables) → Leaves g (sql_statements c) old db → Stands schema db (changed_state c s)
   change_exact c db narrow own within left =
       subst (λ d. Stands schema d (changed_state c s)) (sym left.left) (changed g schema c (record old { in_transaction = true }) left.last s narrow own within kept left.ran st)

@@ -1,4 +1,4 @@
--- The facts of a table and of a state, in order and under tests.
+-- The facts of a table and of a state: their order, and tests of them.
 use Rattle.std.proofs.Common.{◌≡◌, ◌≢◌, refl, sym, ap, ap₂, subst, ◌∙◌, ℕ, zero, suc, ◌+◌, ◌^◌, ◌<◌, ◌≤◌, ◌==◌, nat_lt, Bool, true, false, not, ◌&&◌, cond, if◌then◌else◌, List, [], ◌∷◌, ◌++◌, length, filter, append-nil, append_assoc, inl, inr, ◌⊎◌, arith, Ordering, Less, Equal, nat_cmp, is_eq, IsPermutation}
 use Rattle.std.specs.List.{AllByRecursion}
 use Rattle.std.specs.Cmp.Lexicographic.{slice_cmp}
@@ -20,7 +20,7 @@ use Rattle.jac_sql_spec.proofs.IdOrder.{cases_same, ids_rise, same_id, other_id,
 
 -- ---- the order of the facts
 
--- later facts of a table: of greater ids, or of the same id with greater numbers
+-- Later facts of a table have greater ids, or the same id and greater numbers.
 counted_more : (id i n : ℕ) (c : ℕ → ℕ) → n ≤ c i → n ≤ count_with id c i
 counted_more id i n c h = go (i == id)
   where
@@ -54,7 +54,7 @@ numbered_rise model c (r ∷ rs) ordered placed = (
   numbered_rise model (count_with r.id c) rs ordered.1 placed.1,
 )
 
--- facts of one model, and of those from one on
+-- The facts of one model, and of the models from one on.
 pub of_one : (model : ℕ) (c : ℕ → ℕ) (rows : List Row) → AllByRecursion (λ (f : Fact). f.model ≡ model) (numbered_facts model c rows)
 of_one model c [] = tt
 of_one model c (r ∷ rs) = (refl, of_one model (count_with r.id c) rs)
@@ -83,7 +83,7 @@ across : (model : ℕ) (fs gs : List Fact) → AllByRecursion (λ (f : Fact). f.
 across model [] gs same all = tt
 across model (f ∷ fs) gs same all = (across_one model f gs same.0 all, across model fs gs same.1 all)
 
--- the facts of a state rise
+-- The facts of a state rise.
 pub facts_rise : (model : ℕ) (tables : List (List Row)) → ArePlacedFrom model tables → IsAscending (λ a b. fact_cmp a b ≡ Less) (facts_from model tables)
 facts_rise model [] kept = tt
 facts_rise model (t ∷ ts) kept =
@@ -118,7 +118,7 @@ apart_of : (model other : ℕ) (fs : List Fact) → other ≢ model → AllByRec
 apart_of model other [] differ all = tt
 apart_of model other (f ∷ fs) differ all = ((λ e. differ (sym all.0 ∙ e)), apart_of model other fs differ all.1)
 
--- the facts of a model are those of its table
+-- The facts of a model are those of its table.
 pub facts_in : (first k model : ℕ) (tables : List (List Row)) → model ≡ first + k → filter (is_fact_in model) (facts_from first tables) ≡ numbered_facts model none_yet (rows_of tables k)
 facts_in first k model [] is = ap (numbered_facts model none_yet) (sym (rows_of_none k))
 facts_in first zero model (t ∷ ts) is =
@@ -135,7 +135,7 @@ facts_in first (suc k) model (t ∷ ts) is =
 
 -- ---- without a record
 
--- counts that differ at one id at most
+-- The counts are equal, except perhaps at one id.
 abbrev Alike : ℕ → (ℕ → ℕ) → (ℕ → ℕ) → Type 0
 Alike id c d = (i : ℕ) → i ≢ id → c i ≡ d i
 
@@ -167,12 +167,12 @@ numbered_without model id c d (r ∷ rs) space same placed = elim (cases_same r.
       (ap₂ ◌∷◌ (ap (λ n. fact_of model n r) (same r.id away)) (numbered_without model id (count_with r.id c) (count_with r.id d) rs space (alike_counted id r.id c d same) placed.1)))
 ]
 
--- a test of another model
+-- The test for a record of another model passes no fact.
 numbered_apart : (model other id : ℕ) (c : ℕ → ℕ) (rows : List Row) → other ≢ model → filter (λ f. not (is_fact_of model (id_bytes id) f)) (numbered_facts other c rows) ≡ numbered_facts other c rows
 numbered_apart model other id c [] differ = refl
 numbered_apart model other id c (r ∷ rs) differ = rw (other_number other model differ) (ap (λ l. fact_of other (c r.id) r ∷ l) (numbered_apart model other id (count_with r.id c) rs differ))
 
--- in order, what stands before a record and after it is all but the record
+-- In an ordered table, the rows before a record and those after it are all rows but the record's.
 none_before : (id : ℕ) (rows : List Row) → AllByRecursion (λ (x : Row). id ≤ x.id) rows → before id rows ≡ []
 none_before id [] all = refl
 none_before id (r ∷ rs) all = let e : nat_lt r.id id ≡ false = grind (arith, nat_tests, all.0) in rw e (none_before id rs all.1)
@@ -222,7 +222,7 @@ facts_without first id (t ∷ ts) space kept =
           rw e (ap₂ ◌++◌ (numbered_apart model first id none_yet t (λ s. away (sym s))) more))
     ]
 
--- ---- with one alternative more
+-- ---- with one more alternative
 
 counts : List Row → (ℕ → ℕ) → ℕ → ℕ
 counts [] c = c

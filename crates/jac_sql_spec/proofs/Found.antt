@@ -1,4 +1,4 @@
--- What texts 1 and 2 show.
+-- What the queries for the rows of a model and of a record show.
 use Rattle.std.proofs.Common.{◌≡◌, ℕ, pos, ◌+◌, ◌<◌, ◌^◌, List, [], ◌∷◌, map, filter, Bool, true, false, refl, sym, ap, subst, ◌∙◌, arith, Ordering, Less, Equal, Greater, nat_cmp, is_eq}
 use Rattle.std.specs.List.{list_all, AllByRecursion}
 use Rattle.std.specs.List.Sorted.{IsPermutation}
@@ -89,7 +89,7 @@ module _ (P : Fact → Type 0) (q : Query) (out : Fact → Output) (order : (a b
   outputs_rise [] all up = tt
   outputs_rise (f ∷ fs) all up = (above f fs all.0 all.1 up.0, outputs_rise fs all.1 up.1)
 
--- an answer whose outputs are those of facts of the table, of which those that pass rise
+-- The outputs are those of the facts that pass the test. If these rise, so does the answer.
 answered : (q : Query) (params : Values) (rows : List Values) (lines : List Line) (all some : List Fact) (test : Fact → Bool) (out : Fact → Output) (ordered kept : List Output)
     → kept ≡ map (λ l. out (fact l)) (filter (λ l. test (fact l)) lines) → IsPermutation (map fact lines) all → filter test all ≡ some → IsAscending (λ a b. output_cmp q a b ≡ Less) (map out some)
     → IsPermutation kept ordered → Rattle.std.proofs.Common.IsSorted (output_cmp q) ordered → ordered ≡ map out some

@@ -1,4 +1,5 @@
--- The three texts that found a store leave one that stands for the empty state with number 1.
+-- After the three statements that found a store, the database stands for the empty state with
+-- number 1.
 use Rattle.std.proofs.Common.{◌≡◌, ◌≢◌, ◌⊎◌, inl, inr, refl, sym, ap, subst, ◌∙◌, ℕ, zero, suc, ◌+◌, ℤ, pos, Bool, true, false, cond, not, List, [], ◌∷◌, ◌++◌, map, None, Some, Ok, Err, Result, arith}
 use Rattle.std.specs.Bool.{MatchBool}
 use Rattle.std.specs.List.{AllByRecursion}
@@ -52,7 +53,7 @@ rec_text = Rattle.std.proofs.Common.codes "CREATE TABLE rec(model INTEGER NOT NU
 abbrev start_text : List ℕ
 start_text = Rattle.std.proofs.Common.codes "INSERT INTO meta(k, number, schema) VALUES(0, 1, ?1)"
 
--- a text that makes a table, over a schema
+-- A statement that makes a table in a database of this schema.
 record Makes (from : Schema) (sql : List ℕ) (table : Table) : Type 0 where
   command : command_of (understood from sql) ≡ CreateTable
   plain : IsPlain (understood from sql)

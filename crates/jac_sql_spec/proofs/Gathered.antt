@@ -23,7 +23,7 @@ use Rattle.jac_sql_spec.specs.Told.{natural_in, bytes_in_value, AreSpelled}
 use Rattle.jac_sql_spec.specs.Testing.{fact_shown, IsLineShown, MovesOn, IsNextLine, ReadsOn, AreLinesOf}
 use Rattle.jac_sql_spec.proofs.Kept.{empty_spelled}
 
--- ---- tables with a row at the end of a model's
+-- ---- tables with one more row at the end of a model's table
 
 abbrev pushed : ℕ → Row → List (List Row) → List (List Row)
 pushed model r [] = []
@@ -34,7 +34,7 @@ abbrev AreEmpty : List (List Row) → Type 0
 AreEmpty [] = ⊤
 AreEmpty (t ∷ ts) = (t ≡ []) × AreEmpty ts
 
--- no model after this one has rows
+-- No model after this one has rows.
 abbrev AreEmptyBehind : ℕ → List (List Row) → Type 0
 AreEmptyBehind model [] = ⊤
 AreEmptyBehind zero (t ∷ ts) = AreEmpty ts
@@ -60,7 +60,7 @@ spelled_pushed k r [] is are = tt
 spelled_pushed zero r (t ∷ ts) is are = (all-append IsSpelled t (r ∷ []) are.0 (is, tt), are.1)
 spelled_pushed (suc k) r (t ∷ ts) is are = (are.0, spelled_pushed k r ts is are.1)
 
--- ---- the facts of one row more
+-- ---- the facts of one more row
 
 abbrev counts : List Row → (ℕ → ℕ) → ℕ → ℕ
 counts [] c = c
@@ -74,7 +74,7 @@ no_facts : (first : ℕ) (ts : List (List Row)) → AreEmpty ts → facts_from f
 no_facts first [] empty = refl
 no_facts first (t ∷ ts) empty = ap₂ (λ l fs. numbered_facts first none_yet l ++ fs) empty.0 (no_facts (first + 1) ts empty.1)
 
--- the number of the next alternative of a record is how many stand in its table
+-- The number of a record's next alternative is how many of the record's alternatives the table has.
 pushed_facts : (first k model : ℕ) (r : Row) (ts : List (List Row)) → model ≡ first + k → k < length ts → AreEmptyBehind k ts
     → facts_from first (pushed k r ts) ≡ facts_from first ts ++ fact_of model (counts (rows_of ts k) none_yet r.id) r ∷ []
 pushed_facts first k model r [] is within empty = absurd (let long : length {A = List Row} [] ≡ 0 = refl in omega (arith, within, long))
@@ -124,7 +124,7 @@ rising_end : (r : Row) (xs : List Row) → AllByRecursion (Ends r) xs → AreRis
 rising_end r [] all rising = (tt, tt)
 rising_end r (x ∷ xs) all rising = (before_end x r xs all.0 rising.0, rising_end r xs all.1 rising.1)
 
--- what holds of the guards of a record's alternatives holds of each that has its id
+-- A property of all guards of a record holds of each row with the record's id.
 of_id : (P : List (ℕ × Bool) → Type 0) (id : ℕ) (rows : List Row) → AllByRecursion P (map (λ (r : Row). r.guard) (alternatives id rows)) → AllByRecursion (λ (r : Row). r.id ≡ id → P r.guard) rows
 of_id P id [] all = tt
 of_id P id (r ∷ rs) all = go (r.id == id) refl (of_id P id rs) all
@@ -185,7 +185,8 @@ none_above id other (r ∷ rs) less low = go (r.id == other) refl (none_above id
 
 -- ---- the loop
 
--- the rows before a place are those of tables, of which the last record has alternatives of these guards
+-- The rows that were read so far are those of tables, and the last record has alternatives of these
+-- guards.
 pub record Gathered (shapes : List ModelShape) (number : ℕ) (found : List Values) (at model id : ℕ) (guards : List (List (ℕ × Bool))) : Type 0 where
   pub tables : List (List Row)
   pub long : length tables ≡ length shapes

@@ -30,7 +30,7 @@ byte_is (suc k) n = refl
 div_rises : (a b k : ℕ) → a ≤ b → a / 256 ^ k ≤ b / 256 ^ k
 div_rises a b k le = let below = div-mul-le_self a (256 ^ k) in (le-div_iff_mul-le (power_pos k)).1 (omega (arith, le, below))
 
--- a number's front is that of one byte less, and the byte
+-- The first bytes of a number are those without the last one, and then that byte.
 pub front_is : (k n : ℕ) → n / 256 ^ k ≡ (n / 256 ^ suc k) * 256 + byte_at k n
 front_is k n =
     let whole = div-add-mod' (n / 256 ^ k) 256 in
@@ -58,7 +58,7 @@ bytes_rise (suc k) x y same less =
           rw (same_is (byte_at k x) (byte_at k y) bytes) (bytes_rise k x y fronts less))
     ]
 
--- ids of 16 bytes
+-- Ids of 16 bytes.
 pub ids_rise : (i j : ℕ) → i < j → j < 2 ^ 128 → slice_cmp nat_cmp (id_bytes i) (id_bytes j) ≡ Less
 ids_rise i j less room = bytes_rise 16 i j (div-eq_of_lt {n = i} {m = 256 ^ 16} (omega (arith, less, room)) ∙ sym (div-eq_of_lt {n = j} {m = 256 ^ 16} (omega (arith, room)))) less
 

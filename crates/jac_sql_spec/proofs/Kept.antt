@@ -1,4 +1,5 @@
--- A database that stands for a state tells it, and a change that was applied leaves one that tells the changed state.
+-- A database that stands for a state tells it. A change leaves a database that tells the changed
+-- state.
 use Rattle.std.proofs.Common.{◌≡◌, refl, sym, ap, subst, ◌∙◌, ℕ, zero, suc, ◌+◌, ◌<◌, ◌^◌, ◌≤◌, ◌==◌, Bool, true, false, cond, List, [], ◌∷◌, ◌++◌, length, Some, Ok, Err, Result, IsTrue, arith}
 use Rattle.std.specs.Prelude.{◌-◌, slice_index_or}
 use Rattle.sqlite_value.specs.Order.{column}
@@ -42,17 +43,18 @@ pub long_tables : (first n : ℕ) (all : List Fact) → length (tables_in first 
 long_tables first zero all = refl
 long_tables first (suc n) all = ap suc (long_tables (first + 1) n all)
 
--- a database has the schema text that it stands for a state with
+-- The database has the schema text of the state that it stands for.
 pub schema_stands : (schema : List ℕ) (db : Database) (s : State) → Stands schema db s → schema_in db ≡ schema
 schema_stands schema db s st = ap (λ rows. chars_in (column (slice_index_or rows 0 []) 3)) st.meta
 
--- a database that stands for a sound and spelled state of so many models tells it
+-- A database that stands for a sound state tells this state, if its rows can be read back from
+-- their bytes.
 pub told_if_stands : (models : ℕ) (schema : List ℕ) (db : Database) (s : State) → length s.tables ≡ models → Stands schema db s → IsSound s → AreSpelled s.tables → (told models db ≡ s) × IsDatabaseTold models db
 told_if_stands models schema db s long st sound spelled =
     let is : told models db ≡ s = ap (λ n. told n db) (sym long) ∙ stands_told schema db s st (kept_if_sound s sound) spelled in
     (is, record { schema = schema; stands = subst (Stands schema db) (sym is) st; sound = subst IsSound (sym is) sound; spelled = subst (λ (t : State). AreSpelled t.tables) (sym is) spelled })
 
--- ---- rows that were spelled as they were stored
+-- ---- rows that can be read back because they were spelled
 
 own_spelled : (id : ℕ) (rows : List Row) → id < 2 ^ 128 → AreOf id rows → AllByRecursion CanBeSpelled rows → AllByRecursion IsSpelled rows
 own_spelled id [] room own can = tt
@@ -93,7 +95,7 @@ module _ {S : Type 0} (g : Ghosts S) (models : ℕ) (old new : Held S) (c : Chan
   at_end : IsTrue (state g new).is_open → EndsCommitted (state g old) (state g new)
   at_end opened = ends (clean_if_open (state g new) law opened)
 
-  -- one transaction of a change, over a database that tells
+  -- One transaction of a change, if the database tells a state.
   pub change_told : (r : Result (Unit {0}) Error) → (IsTrue (state g old).is_open → IsSound (changed_state c (told models (state g old).now))) → Rattle.std.specs.Prelude.OnOk r (CanBeStored models c.changed)
       → Transacts g (sql_statements c) old new r → AppliesTold g models c old new r
   change_told (Ok u) sound may t =
@@ -131,7 +133,7 @@ spelled_more : (n : ℕ) (ts : List (List Row)) → AreSpelled ts → AreSpelled
 spelled_more n [] are = empty_spelled n
 spelled_more n (t ∷ ts) are = (are.0, spelled_more n ts are.1)
 
--- empty tables show nowhere
+-- Empty tables have no facts.
 stands_widened : (schema : List ℕ) (db : Database) (models : ℕ) (s : State) → Stands schema db s → Stands schema db (widened_state models s)
 stands_widened schema db models s st = record {
   schema_is = st.schema_is;
@@ -158,7 +160,7 @@ module _ {S : Type 0} (g : Ghosts S) (shapes : List ModelShape) (models : ℕ) (
   reshape_end : IsTrue (state g new).is_open → EndsCommitted (state g old) (state g new)
   reshape_end opened = ends (clean_if_open (state g new) law opened)
 
-  -- one transaction of a change that brings another schema, over a database that tells
+  -- One transaction of a change that brings another schema, if the database tells a state.
   pub reshape_told : (r : Result (Unit {0}) Error) → Rattle.std.specs.Prelude.OnOk r (CanBeStored models c.changed) → Transacts g (statements_with c (Some schema)) old new r → ReshapesTold g models (length shapes) c schema old new r
   reshape_told (Ok u) may t =
       let whole = λ (opened : IsTrue (state g new).is_open). reshape_done (state g new).committed ((reshape_end opened).was_open opened) may (t.all (clean_if_open (state g new) law opened)) in
@@ -187,7 +189,7 @@ empty_sound : (first n next : ℕ) → AreSound next first (empties n)
 empty_sound first zero next = tt
 empty_sound first (suc n) next = (tt, tt, empty_sound (first + 1) n next)
 
--- one transaction of the founding leaves a database that tells the empty state
+-- One transaction that founds a store leaves a database that tells the empty state.
 pub founded_told : {S T : Type 0} (g : Ghosts S) (schema : List ℕ) (models : ℕ) (old new : Held S) (t : T) → (state g old).now.schema ≡ no_tables → ((state g new).is_clean ≡ false → (state g new).is_open ≡ false)
     → (HasCleanDisk (state g new) → EndsCommitted (state g old) (state g new)) → Transacts g (founding schema) old new (Ok t)
     → IsAllCommitted models (state g new) × (IsTrue (state g new).is_open → told models (state g new).now ≡ empty_state models) × (IsTrue (state g new).is_open → schema_in (state g new).now ≡ schema)

@@ -1,4 +1,4 @@
--- What calls leave that only read, one after another, and where they fail.
+-- What calls that only read leave, one after another, if they succeed and if they fail.
 use Rattle.std.proofs.Common.{◌≡◌, ◌⊎◌, inl, inr, refl, sym, ap, ◌∙◌, ℕ, ◌≤◌, List, [], Ok, Err, Result, IfOk, IfErr, IsTrue, arith, false}
 use Rattle.sqlite_trees.specs.Tree.{Trees}
 use Rattle.sqlite_value.specs.Order.{Row}
@@ -42,7 +42,7 @@ lasts_then a b c one two = record {
     next clean (inl still) = last (two.closes clean still)
     next clean (inr rose) = inr (rose_later a.faults b.faults c.faults rose two.counts)
 
--- nothing was done
+-- Nothing was done.
 pub unmoved_same : (s : Sql) → (IsTrue s.is_open → s.now ≡ s.committed) → IsSeenUnmoved s s
 unmoved_same s settled = record { was_open = λ opened. opened; same = λ opened. refl; settled = settled }
 
@@ -53,7 +53,7 @@ unmoved_then a b c one two = record {
   settled = two.settled;
 }
 
--- the tables are left once more
+-- Another call leaves the tables as they are.
 pub unmoved_on : (a b c : Sql) → (IsTrue a.is_open → a.now.schema ≡ two_tables 0 1 2) → IsSeenUnmoved a b → LeavesStoredTables b c → IsSeenUnmoved a c
 unmoved_on a b c has one two =
     unmoved_then a b c one
@@ -70,7 +70,7 @@ module _ (old new : Sql) (law : new.is_clean ≡ false → new.is_open ≡ false
   was_before opened (inl same) = same.0.was_open
   was_before opened (inr undone) = undone.was_open opened
 
-  -- all rows that a text shows
+  -- All rows that a query shows.
   pub rows_leave : {V : Type 0} (items : V → List Row) (sql : List ℕ) → IsPlain (understood (two_tables 0 1 2) sql) → (r : Result V Error)
       → (HasCleanDisk new → IfOk r (λ v. Shown sql [] old new (items v))) → (HasCleanDisk new → IfErr r (FailsToQuery sql [] old new)) → LeavesStoredTables old new
   rows_leave items sql plain (Ok v) shown fails has settled =
@@ -88,7 +88,7 @@ module _ (old new : Sql) (law : new.is_clean ≡ false → new.is_open ≡ false
   unfolding key_reading
   keys_leave items r shown fails = rows_leave items key_reading key_plain.0 r shown fails
 
-  -- the row of the number and the schema
+  -- The row of the number and the schema.
   pub row_leaves : (r : Result Row Error) → (HasCleanDisk new → QueriesRow reading [] old new r) → LeavesStoredTables old new
   unfolding reading
   row_leaves r asked has settled =

@@ -1,4 +1,4 @@
--- The number: text 5, and with it a whole change.
+-- The statement that stores the number, the last one of a change.
 use Rattle.std.proofs.Common.{◌≡◌, ◌≢◌, ◌⊎◌, inl, inr, ℕ, ℤ, pos, List, [], ◌∷◌, map, Bool, true, false, cond, None, Some, Ok, Err, Result, refl, sym, ap, subst, ◌∙◌, arith}
 use Rattle.std.specs.List.Sorted.{IsPermutation}
 use Rattle.sqlite_value.specs.declared.value.Value.{Value}
@@ -36,7 +36,7 @@ pub reshape_plain : IsPlain (understood (two_tables 0 1 2) reshape_text)
 unfolding understood everything
 reshape_plain = (refl, refl)
 
--- the row of the number with another number, and this term as its schema
+-- The row of `meta` with another number, and with this term as its schema.
 abbrev pub set_query : Term → Query
 set_query last = over 0 (is (col 1 0) (lit (Int (pos 0))) ∷ []) (col 1 0 ∷ col 1 0 ∷ lit Null ∷ col 0 0 ∷ last ∷ []) []
 

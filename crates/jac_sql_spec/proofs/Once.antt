@@ -41,7 +41,7 @@ tables_again first all (t ∷ ts) has are =
     ap₂ ◌∷◌ (ap (map row_in) (has 0 first (omega arith)) ∙ rows_again first none_yet t are.0)
     (tables_again (first + 1) all ts (λ k model is. has (suc k) model (omega (arith, is))) are.1)
 
--- the facts are those of the rows
+-- The facts are those of the rows.
 facts_again : (lines : List Line) → map fact_in (map encode lines) ≡ map fact lines
 facts_again [] = refl
 facts_again (l ∷ ls) = ap (λ fs. fact l ∷ fs) (facts_again ls)
@@ -55,6 +55,6 @@ stands_told schema db s st kept spelled =
     let number : natural_in (column (Rattle.std.specs.Prelude.slice_index_or (db.trees 0) 0 []) 2) ≡ s.number = ap (λ rows. natural_in (column (Rattle.std.specs.Prelude.slice_index_or rows 0 []) 2)) st.meta in
     λ i. record { tables = tables i; number = number i }
 
--- so a database stands for one state of so many models
+-- So a database stands for only one state with so many models.
 pub stands_once : (schema : List ℕ) (db : Database) (s t : State) → length s.tables ≡ length t.tables → Stands schema db s → Stands schema db t → AreKept s.tables → AreSpelled s.tables → AreKept t.tables → AreSpelled t.tables → s ≡ t
 stands_once schema db s t long one two kept spelled also written = sym (stands_told schema db s one kept spelled) ∙ ap (λ n. told n db) long ∙ stands_told schema db t two also written

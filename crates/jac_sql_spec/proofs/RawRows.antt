@@ -1,4 +1,4 @@
--- What the questions that attaching asks show of the rows as they are stored, and that these are lines.
+-- What the queries of attaching show of the stored rows, which are lines.
 use Rattle.std.proofs.Common.{◌≡◌, refl, sym, ap, ap₂, subst, ◌∙◌, ℕ, zero, suc, ℤ, pos, Bool, true, false, ◌&&◌, ◌||◌, not, List, [], ◌∷◌, ◌++◌, map, flat_map, length, codes, Option, Some, None, Less, is_eq, int_cmp, Ordering, Equal, Greater, arith}
 use Rattle.std.specs.List.{AllByRecursion}
 use Rattle.std.specs.List.Sorted.{IsPermutation}
@@ -69,7 +69,7 @@ first_shown r = column r 0 ∷ []
 abbrev line_shown : Values → Values
 line_shown r = column r 1 ∷ column r 2 ∷ column r 3 ∷ column r 4 ∷ column r 5 ∷ []
 
--- a row with its rowid behind it
+-- A row, with its rowid after the other columns.
 abbrev pub whole_shown : Values → Values
 whole_shown r = column r 1 ∷ column r 2 ∷ column r 3 ∷ column r 4 ∷ column r 5 ∷ column r 0 ∷ []
 
@@ -99,7 +99,7 @@ module _ (old new : Sql) (found : List Values) (has : old.now.schema ≡ two_tab
 
 -- ---- rowids that rise
 
--- a row shows a rowid above this one
+-- A row shows a rowid greater than `last`.
 record IsRowidAbove (last : Option ℤ) (v : Values) (at : ℤ) : Type 0 where
   shown : column v 0 ≡ Int at
   above : IsAbove last at
@@ -202,7 +202,7 @@ map_ascending R f (r ∷ rs) up = (map_all rs up.0, map_ascending R f rs up.1)
     map_all [] all = tt
     map_all (y ∷ ys) all = (all.0, map_all ys all.1)
 
--- rows of rec whose rowids rise and that are shown as lines are held as the facts of these
+-- If the rowids rise and the rows are shown as lines, the table holds the facts of these rows.
 raw_holds : (schema : Schema) (db : Trees) (ids found : List Values) → Keeps Datatype (two_tables 0 1 2) db → IsPermutation (map first_shown (db 1)) ids → AreRowidsAbove None ids
     → IsPermutation (map line_shown (db 1)) found → AllByRecursion (λ v. IsLineShown v (fact_shown v)) found → Holds (db 1) (map fact_shown found)
 raw_holds schema db ids found typed moved_ids are_rising moved are =
@@ -224,7 +224,7 @@ raw_holds schema db ids found typed moved_ids are_rising moved are =
 
 -- ---- rows with their rowids
 
--- what such a row shows of the row, and of its rowid
+-- What such a row shows without its rowid.
 abbrev shown_line : Values → Values
 shown_line v = column v 0 ∷ column v 1 ∷ column v 2 ∷ column v 3 ∷ column v 4 ∷ []
 
@@ -245,7 +245,7 @@ lines_shown : (found : List Values) → AllByRecursion (λ v. IsLineShown v (fac
 lines_shown [] are = tt
 lines_shown (v ∷ vs) are = let is = are.0 in (record { model = is.model; jid = is.jid; alt = is.alt; jvars = is.jvars; body = is.body }, lines_shown vs are.1)
 
--- rows of rec that are shown as lines, with rowids of which none comes twice, are held as the facts of these
+-- If no rowid comes twice and the rows are shown as lines, the table holds the facts of these rows.
 pub whole_holds : (db : Trees) (found : List Values) → Keeps Datatype (two_tables 0 1 2) db → IsPermutation (map whole_shown (db 1)) found → AreRowidsApart found → AllByRecursion (λ v. IsLineShown v (fact_shown v)) found
     → Holds (db 1) (map fact_shown found)
 whole_holds db found typed moved apart are =
@@ -271,7 +271,7 @@ is_nothing (Real x) e = let f : false ≡ true = e in cc
 is_nothing (Text t) e = let f : false ≡ true = e in cc
 is_nothing (Blob b) e = let f : false ≡ true = e in cc
 
--- a row of meta with its key, but for the number and the schema
+-- A row of `meta` with its key, a number and a schema.
 pub record IsMetaRow (r : Values) : Type 0 where
   pub number : Value
   pub schema : Value
@@ -299,7 +299,7 @@ raw_meta schema db (v0 ∷ v1 ∷ v2 ∷ v3 ∷ []) key typed present =
 raw_meta schema db (v0 ∷ v1 ∷ v2 ∷ v3 ∷ v4 ∷ more) key typed present =
     absurd (no_fifth (is_null v1) (suits (strict (codes "number") Integer) v2) (suits (strict (codes "schema") Words) v3) (has_computed (meta 0) (v0 ∷ v1 ∷ v2 ∷ v3 ∷ v4 ∷ more)) typed)
 
--- one row is shown of one row
+-- If one row is shown, the table has one row.
 one_row : (rows found : List Values) (only : Values) → IsPermutation (map first_shown rows) found → found ≡ only ∷ [] → (r : Values) × (rows ≡ r ∷ []) × (first_shown r ≡ only)
 one_row rows found only moved one =
     let back : IsPermutation (only ∷ []) (map first_shown rows) = subst (λ vs. IsPermutation vs (map first_shown rows)) one (IsPermutation-sym (map first_shown rows) found moved) in

@@ -1,4 +1,4 @@
--- What a keeper reads is the told state's.
+-- What a keeper reads is what the told state has.
 use Rattle.std.proofs.Common.{◌≡◌, refl, sym, ap, subst, ◌∙◌, ℕ, pos, ◌+◌, ◌<◌, ◌^◌, false, List, [], ◌∷◌, inl, inr, Ok, Err, Result, IfOk, IfErr, IsTrue}
 use Rattle.sqlite_trees.specs.declared.store.Store.{Ghosts}
 use Rattle.sqlite_value.specs.declared.value.Value.TheVariants.{Int, Blob}
@@ -25,7 +25,7 @@ use Rattle.jac_sql_spec.proofs.Sound.{kept_if_sound}
 use Rattle.jac_sql_spec.proofs.Stays.{Stays, clean_if_open, fails_stays, shown_open, shown_same, row_open, row_stays, kept_by, left_by}
 use Rattle.jac_sql_spec.proofs.Texts.{number_plain, record_plain}
 
--- rows of a query whose text changes nothing
+-- The rows of a query that changes nothing.
 module _ {S V : Type 0} (items : V → List Values) (g : Ghosts S) (models : ℕ) (question : SqlStatement) (Is : Values → Row → Type 0) (Exact : State → List Row → Type 0) (old new : Held S) (answer : Result V Error)
     (plain : IsPlain (understood (two_tables 0 1 2) question.text)) (law : (state g new).is_clean ≡ false → (state g new).is_open ≡ false)
     (ok : HasCleanDisk (state g new) → IfOk answer (λ v. Shown question.text question.params (state g old) (state g new) (items v)))
@@ -76,7 +76,7 @@ module _ {S V : Type 0} (items : V → List Values) (g : Ghosts S) (models : ℕ
       rows_told items g models (record_reading id) (IsRecordRow id kinds) (λ s rows. rows ≡ alternatives id (rows_of s.tables (model_of_id id))) old new answer record_plain.0 law ok err was r each none
       (λ before rows are. let it = was.told_by before in record_exact g it.schema old new (told models (state g old).now) it.stands (kept_if_sound _ it.sound) it.spelled id kinds rows room are)
 
--- the number
+-- The number.
 module _ {S : Type 0} (g : Ghosts S) (models : ℕ) (old new : Held S) (law : (state g new).is_clean ≡ false → (state g new).is_open ≡ false) (was : IsAllCommitted models (state g old)) where
   module _ (answer : Result Values Error) (asked : HasCleanDisk (state g new) → QueriesRow reading [] (state g old) (state g new) answer) where
     row_opens : IsTrue (state g new).is_open → IsTrue (state g old).is_open

@@ -1,4 +1,4 @@
--- A store that an earlier run made tells its state, once all of it was tested.
+-- A store that an earlier run made tells its state after all of it was tested.
 use Rattle.std.proofs.Common.{◌≡◌, refl, sym, ap, subst, ◌∙◌, inl, inr, ℕ, pos, Bool, true, false, List, [], ◌∷◌, map, length, Some, None, Option, Ok, Err, IsTrue}
 use Rattle.std.specs.List.Sorted.{IsPermutation}
 use Rattle.std.specs.Prelude.{slice_index_or}
@@ -34,11 +34,11 @@ use Rattle.jac_sql_spec.proofs.RawRows.{key_text, key_plain, all_plain, first_sh
 use Rattle.jac_sql_spec.proofs.Stays.{clean_if_open, shown_open, shown_same, row_open, row_stays, same_now}
 use Rattle.jac_sql_spec.proofs.Texts.{number_text, all_text, number_plain}
 
--- a connection that isn't clean shows as shut
+-- If the disk isn't clean, the connection is shut.
 abbrev Shuts : Sql → Type 0
 Shuts s = s.is_clean ≡ false → s.is_open ≡ false
 
--- where the connection is still open, it was, the database is the same, and what is seen is what is committed
+-- The connection was open, the database is the same, and all of it is committed.
 pub record IsSame (old new : Sql) : Type 0 where
   pub was_open : IsTrue old.is_open
   pub now_is : new.now ≡ old.now
@@ -63,7 +63,7 @@ still old new schema same has = ap (λ (d : Database). d.schema) same.now_is ∙
 pub_next : (s : Sql) → s.now ≡ s.committed → IsTrue s.is_open → s.now ≡ s.committed
 pub_next s settled opened = settled
 
--- what is asked in one call of another: the number and the rows
+-- One call reads the number and then the rows.
 pub stored_shown : {S : Type 0} (g : Ghosts S) (shapes : List ModelShape) (number : ℕ) (old first new : Held S) → Shuts (state g first) → (HasCleanDisk (state g first) → IsNumberAsked g old first number)
     → (HasCleanDisk (state g new) → ShowsLines g shapes number first new) → HasCleanDisk (state g new) → ShowsStored g shapes old new
 stored_shown g shapes number old first new shuts_first asked lines clean =
@@ -97,7 +97,7 @@ two_values a b c d e = (ap (λ (v : Values). column v 0) e, ap (λ (v : Values).
 module _ {S : Type 0} (g : Ghosts S) (shapes : List ModelShape) (schema : List ℕ) (start keyed named : Held S) (shuts_keyed : Shuts (state g keyed)) (shuts_named : Shuts (state g named))
     (settled : IsTrue (state g start).is_open → (state g start).now ≡ (state g start).committed) (live : IsLive (state g start)) (has : (state g start).now.schema ≡ two_tables 0 1 2)
     (key : HasCleanDisk (state g keyed) → ShowsKey g start keyed) where
-  -- the row of meta, as it was found
+  -- The row of `meta`, as it was found.
   record IsHead (found : Option (List ℕ)) : Type 0 where
     pub opened_keyed : IsTrue (state g keyed).is_open
     pub opened_start : IsTrue (state g start).is_open
@@ -134,7 +134,7 @@ module _ {S : Type 0} (g : Ghosts S) (shapes : List ModelShape) (schema : List �
         tells = (f.row, asks_of (state g keyed) (state g named) one.2.number one.2.schema f.row has_keyed at_keyed f.asked, f.tells);
       }
 
-  -- another schema is the one that the database has
+  -- If another schema was found, it is the one in the database.
   pub other_stored : (stored : List ℕ) → (HasCleanDisk (state g named) → Finds g schema keyed named (Ok (Some stored))) → IsTrue (state g named).is_open → schema_in (state g named).now ≡ stored
   other_stored stored finds opened =
       let h = head (Some stored) finds opened in
@@ -143,7 +143,7 @@ module _ {S : Type 0} (g : Ghosts S) (shapes : List ModelShape) (schema : List �
 
   module _ (new : Held S) (shuts_new : Shuts (state g new)) (finds : HasCleanDisk (state g named) → Finds g schema keyed named (Ok None))
       (stored : HasCleanDisk (state g new) → ShowsStored g shapes named new) where
-    -- the database is told, and fits
+    -- The database tells a state of these shapes.
     record IsWhole : Type 0 where
       pub settled_new : (state g new).now ≡ (state g new).committed
       pub told_is : IsDatabaseTold (length shapes) (state g new).now

@@ -1,4 +1,4 @@
--- A sound state's tables may be stored, and cells of known kinds name ids with room.
+-- The tables of a sound state can be stored, and ids in cells of known kinds fit into 16 bytes.
 use Rattle.std.proofs.Common.{◌≡◌, refl, sym, ap, ℕ, zero, suc, ◌+◌, ◌^◌, ◌<◌, Bool, true, false, ◌&&◌, List, [], ◌∷◌, Some, None, arith}
 use Rattle.std.specs.List.{AllByRecursion}
 use Rattle.std.proofs.lemmas.Bool.{and_parts}
@@ -19,7 +19,7 @@ use Rattle.jac_sql_spec.specs.Spelled.{IsSpelled}
 use Rattle.jac_sql_spec.specs.Told.{AreSpelled}
 use Rattle.jac_row_codec.specs.Spelling.{IsNarrow}
 
--- an id, narrow or wide, has room in 16 bytes
+-- An id, narrow or wide, fits into 16 bytes.
 pub id_room : (id model : ℕ) → is_id_of id model ≡ true → id < 2 ^ 128
 id_room id model is = let to = (id_parts id model is).to in omega (arith, to)
 

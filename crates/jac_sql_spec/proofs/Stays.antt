@@ -1,4 +1,5 @@
--- A query leaves the database as it was, also where it fails; and while the connection is open the disk is clean.
+-- A query leaves the database as it was, even if it fails. If the connection is open, the disk is
+-- clean.
 use Rattle.std.proofs.Common.{◌≡◌, ◌⊎◌, inl, inr, refl, sym, ap, subst, ◌∙◌, ℕ, pos, Bool, true, false, true≢false, List, [], ◌∷◌, None, Some, Option, Ok, Err, Result, IfOk, IsTrue}
 use Rattle.sqlite_trees.proofs.Doubt.{no_doubt}
 use Rattle.sqlite_schema.specs.declared.command.Returning.{Returning}
@@ -13,7 +14,7 @@ use Rattle.sqlite.proofs.Callers.{IsPlain}
 use Rattle.jac_sql_spec.specs.Told.{told}
 use Rattle.jac_sql_spec.specs.Telling.{IsDatabaseTold, IsAllCommitted, StaysCommitted}
 
--- an open connection is clean
+-- If the connection is open, the disk is clean.
 pub clean_if_open : (s : Sql) → (s.is_clean ≡ false → s.is_open ≡ false) → IsTrue s.is_open → HasCleanDisk s
 clean_if_open s law opened = go s.is_clean refl
   where
@@ -77,7 +78,7 @@ module _ (old new : Sql) where
   row_stays sql params schema has plain (Err e) (inl h) = fails_stays sql params e h
   row_stays sql params schema has plain (Err e) (inr h) = inl (shown_same sql params [] schema has plain h.1)
 
-  -- the database is the same, and settled
+  -- The database is the same, and all of it is committed.
   pub same_now : IsTrue old.is_open → old.now ≡ old.committed → IsTrue new.is_open → Stays old new → (new.now ≡ old.now) × (new.now ≡ new.committed)
   same_now was settled opened (inl same) = (same.0.now_is, same.0.now_is ∙ settled ∙ sym same.0.committed_is)
   same_now was settled opened (inr undone) = let back = undone.undone opened in (back.0 ∙ sym settled, back.0 ∙ sym back.1)

@@ -49,7 +49,7 @@ stays_open : (a b : Sql) → Stays a b → IsTrue b.is_open → IsTrue a.is_open
 stays_open a b (inl same) opened = same.0.was_open
 stays_open a b (inr undone) opened = undone.was_open opened
 
--- a write that showed rows, with nothing done behind it
+-- A write that showed rows, with nothing done after it.
 abbrev writes_on : (a b c : Sql) (returning : Option Returning) (command : Command) (text : List ℕ) (params : Values) (count : ℕ) → IsUnchanged b c → Writes a b returning command text params count
     → Writes a c returning command text params count
 writes_on a b c returning command text params count same w =
@@ -83,7 +83,7 @@ shown_on a b c sql params rows same h = (h.0, h.1, shows_on a b c sql h.0 _ rows
 same_value : {B E : Type 0} {a b : B} → ◌≡◌ {A = Result B E} (Ok a) (Ok b) → a ≡ b
 same_value e = cc
 
--- a text without RETURNING, with nothing done before it
+-- A query without RETURNING, with nothing done before it.
 shown_before : (a b c : Sql) (sql : List ℕ) (params : Values) (rows : List Values) (it : Compiled) → IsUnchanged a b → understood b.now.schema sql ≡ Ok it → it.returning ≡ None → Shown sql params b c rows → Shown sql params a c rows
 unfolding Shown
 shown_before a b c sql params rows it same is none h =
@@ -97,7 +97,7 @@ shown_before a b c sql params rows it same is none h =
           (read.0, subst (λ (d : Database). IsSourceOf (reads_listing d.schema sql) d read.0) now read.1, read.2, unchanged_then a b c same read.3),
     )
 
--- ---- a question that is under way
+-- ---- a query under way
 
 module _ {S : Type 0} (g : Ghosts S) (question : SqlStatement) where
   gives_on : (first old new : Held S) (given : List Values) (v : Values) → HasShown g question first old given → MovesTo g old new (Some v) → HasShown g question first new (given ++ v ∷ [])
@@ -144,7 +144,7 @@ module _ {S : Type 0} (g : Ghosts S) (question : SqlStatement) where
       start (inl h) = inl h
       start (inr h) = inr (h.1, h.2)
 
-  -- something is made of it
+  -- Something is made of the rows.
   pub streams_made : (R : List Values → Type 0) (first now : Held S) → R [] → Under AreNone first now → Under R first now
   streams_made R first now made so = record {
     lasts = so.lasts;
@@ -164,7 +164,7 @@ module _ {S : Type 0} (g : Ghosts S) (question : SqlStatement) where
         record { given = before.given ++ step.0 ∷ []; shown = gives_on first old new before.given step.0 before.shown step.1; made = more before.given step.0 before.made step.2 };
   }
 
-  -- it is at its end
+  -- The query is at its end.
   pub streams_end : {U F : Type 0} (P : List Values → Type 0) (R : List Values → U → Type 0) (first old new : Held S) (u : U) → Under P first old → ConnectionLasts (state g old) (state g new)
       → (HasCleanDisk (state g new) → MovesTo g old new None) → ((given : List Values) → P given → R given u) → Through {E = F} R first new (Ok u)
   streams_end P R first old new u so lasts steps whole = record {
@@ -175,7 +175,7 @@ module _ {S : Type 0} (g : Ghosts S) (question : SqlStatement) where
         (before.given, gives_all first old new before.given before.shown (steps clean), whole before.given before.made);
   }
 
-  -- a step failed
+  -- A step failed.
   pub streams_failed : {U F : Type 0} (P : List Values → Type 0) (R : List Values → U → Type 0) (first old new : Held S) (r : Result U F) → IsErr r → Under P first old → ConnectionLasts (state g old) (state g new)
       → (HasCleanDisk (state g new) → Stays (state g old) (state g new)) → Through R first new r
   streams_failed P R first old new (Ok u) failed so lasts stays = absurd (let f : false ≡ true = failed in cc)
@@ -185,12 +185,12 @@ module _ {S : Type 0} (g : Ghosts S) (question : SqlStatement) where
     shown = λ clean. tt;
   }
 
-  -- what a step gave couldn't be kept
+  -- What a step gave couldn't be kept.
   pub streams_full : {T U F : Type 0} (Is : Values → T → Type 0) (P : List Values → Type 0) (R : List Values → U → Type 0) (first old new : Held S) (t : T) (r : Result U F) → IsErr r → Under P first old
       → ConnectionLasts (state g old) (state g new) → (HasCleanDisk (state g new) → (v : Values) × MovesTo g old new (Some v) × Is v t) → Through R first new r
   streams_full Is P R first old new t r failed so lasts steps = streams_failed P R first old new r failed so lasts (λ clean. inl (steps clean).1.same)
 
-  -- it is cut off
+  -- The query is stopped.
   pub streams_cut : {U F : Type 0} (P : List Values → Type 0) (R : List Values → U → Type 0) (first now : Held S) (f : F) → Under P first now → Through R first now (Err f)
   streams_cut P R first now f so = record {
     lasts = so.lasts;
@@ -205,7 +205,7 @@ module _ {S : Type 0} (g : Ghosts S) (question : SqlStatement) where
         stays = λ has plain. inl (shown_same (state g first) (state g now) question.text question.params (given ++ returned now.reading) (two_tables 0 1 2) has plain h.0);
       }
 
-  -- it doesn't begin
+  -- The query doesn't begin.
   pub streams_refused : {X U F : Type 0} (R : List Values → U → Type 0) (old new : Held S) (e : Error) (f : F) → IsRefused g {X = X} question.text question.params old (Err e) new → Through R old new (Err f)
   streams_refused R old new e f refused = record {
     lasts = lasts_of (state g old) (state g new) refused.survives;
@@ -231,7 +231,7 @@ module _ {S : Type 0} (g : Ghosts S) (question : SqlStatement) where
         same_now (state g old) (state g new) was (settled was) opened (through_stays plain (has was) opened) in
         record { was_open = through_opens; same = λ opened. (both opened).0; settled = λ opened. (both opened).1 }
 
-  -- rows of a told state
+  -- The rows of a told state.
   module _ (Is : Values → Row → Type 0) (old new : Held S) where
     pub through_shown : {F : Type 0} (r : Result (List Row) F) → IfOk r (λ rows. (found : List Values) × Shown question.text question.params (state g old) (state g new) found × Each Is found rows) → IfOk r (AreShown g question Is old new)
     through_shown (Ok rows) it = record { found = it.0; shown = it.1; each = it.2 }
@@ -253,7 +253,7 @@ module _ {S : Type 0} (g : Ghosts S) (question : SqlStatement) where
           exact = λ opened. told_by (Exact (told models (state g old).now)) r (through_shown r (it.shown (clean_if_open (state g new) law opened))) (is (opens opened));
         }
 
--- those of a model
+-- The rows of a model.
 pub model_through : {S : Type 0} (g : Ghosts S) (models model : ℕ) (kinds : List Kind) (old new : Held S) (r : Result (List Row) Error) → ((state g new).is_clean ≡ false → (state g new).is_open ≡ false)
     → ReadsThrough g (model_reading model) (Each (IsModelRow model kinds)) old new r → IsAllCommitted models (state g old) → ReadsTold g (λ s rows. rows ≡ rows_of s.tables model) models old new r
 unfolding model_reading
@@ -261,13 +261,13 @@ model_through g models model kinds old new r law it was =
     through_told g (model_reading model) (IsModelRow model kinds) old new models (λ s rows. rows ≡ rows_of s.tables model) r law it model_plain.0 was
     (λ before rows are. let held = was.told_by before in model_exact g held.schema old new (told models (state g old).now) held.stands (kept_if_sound _ held.sound) held.spelled model kinds rows are)
 
--- all rows
+-- All rows.
 pub all_through_leaves : {S U F : Type 0} (g : Ghosts S) (R : List Values → U → Type 0) (old new : Held S) (r : Result U F) → ((state g new).is_clean ≡ false → (state g new).is_open ≡ false)
     → ReadsThrough g (record { text = all_reading; params = [] }) R old new r → LeavesStoredTables (state g old) (state g new)
 unfolding all_reading
 all_through_leaves g R old new r law it = through_leaves g (record { text = all_reading; params = [] }) R old new r law it all_plain.0
 
--- one made of each
+-- One row more, made of one value more.
 pub each_on : (Is : Values → Row → Type 0) (given : List Values) (made : List Row) (v : Values) (row : Row) → Each Is given made → Is v row → Each Is (given ++ v ∷ []) (made ++ row ∷ [])
 each_on Is [] [] v row each is = (is, tt)
 each_on Is (x ∷ xs) (r ∷ rs) v row each is = (each.0, each_on Is xs rs v row each.1 is)

@@ -1,4 +1,4 @@
--- Rows that are taken out by their rowids, and one that is put in, where no rowid comes twice.
+-- Rows are deleted by their rowids, and one is inserted. No rowid comes twice.
 use Rattle.std.proofs.Common.{◌≡◌, ℕ, ℤ, pos, List, [], ◌∷◌, map, filter, fold, length, eqb, Bool, true, false, not, ◌||◌, cond, int_cmp, is_eq, refl, sym, ap, ap₂, subst, ◌∙◌, Ordering, Less, Equal, Greater}
 use Rattle.std.specs.Ordering.{int_eq, match_ordering}
 use Rattle.std.specs.List.{list_any, AllByRecursion}
@@ -85,7 +85,7 @@ own_taken p (x ∷ xs) apart = go (p x) (own_taken p xs apart.1)
     go true more = rw (ap is_eq (tied_itself int_cmp_total (at x))) (filter_on _ _ xs (passed_over x (map at (filter p xs)) xs apart.0) ∙ more)
     go false more = rw (untaken x p xs apart.0) (ap (λ l. x ∷ l) more)
 
--- taken out by the rowids of those that pass a test, told in any order
+-- The rows that pass a test are deleted by their rowids, in any order.
 pub gone : (p : Line → Bool) (lines : List Line) (ids : List ℤ) → AreDistinct lines → IsPermutation ids (map at (filter p lines)) → without_all (map encode lines) ids ≡ map encode (delete_where p lines)
 gone p lines ids apart same = by_key ids lines ∙ ap (map encode) (folded ids lines ∙ filter_same _ _ (same_spared ids (map at (filter p lines)) same) lines ∙ own_taken p lines apart)
 

@@ -28,12 +28,12 @@ alone : (b : Bool) → (b && true) ≡ b
 alone true = refl
 alone false = refl
 
--- text 1
+-- The test of the query for a model.
 pub model_tests : (model : ℕ) (l : Line) → list_all (holds ((Int (pos model) ∷ []) ∷ encode l ∷ [])) (is (col 1 1) (col 0 0) ∷ []) ≡ is_fact_in model (fact l)
 unfolding binary
 model_tests model l = rw (value_cmp-Int, truth_of, same_test) (alone (is_fact_in model (fact l)))
 
--- texts 2 and 3
+-- The test of the query and of the removal for a record.
 pub record_tests : (model : ℕ) (jid : List ℕ) (l : Line) → list_all (holds ((Int (pos model) ∷ Blob jid ∷ []) ∷ encode l ∷ [])) (is (col 1 1) (col 0 0) ∷ is (col 1 2) (col 0 1) ∷ []) ≡ is_fact_of model jid (fact l)
 unfolding binary
 record_tests model jid l =
@@ -50,7 +50,7 @@ module _ (params : Row) (terms : List Term) (test : Line → Bool) (tests : (l :
       go true more = ap (λ xs. (params ∷ encode l ∷ []) ∷ xs) more
       go false more = more
 
-  -- the rows that pass, of a table alone, with no order of its rowids
+  -- The rows that pass the test, in a table alone. Their rowids may have any order.
   pub matched : (db : Trees) (t : ℕ) (lines : List Line) → db t ≡ map encode lines → matches db terms (inner t end) (params ∷ []) ≡ map (λ l. params ∷ encode l ∷ []) (filter test lines)
   matched db t lines stored =
       ap (flat_map (λ r. matches db terms end (params ∷ r ∷ []))) stored

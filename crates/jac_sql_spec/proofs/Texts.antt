@@ -1,4 +1,4 @@
--- What each text is, over the two tables.
+-- What each SQL text means over the two tables.
 use Rattle.std.proofs.Common.{◌≡◌, ℕ, pos, negsuc, List, [], ◌∷◌, codes, Bool, true, false, Some, None, Ok, Err, refl}
 use Rattle.sqlite_value.specs.declared.value.Value.TheVariants.{Null, Int}
 use Rattle.sqlite_value.specs.declared.keys.Collation.TheVariants.{Binary}
@@ -122,7 +122,7 @@ pub record_plain : IsPlain (understood (two_tables 0 1 2) record_text) × (reads
 unfolding understood everything
 record_plain = ((refl, refl), refl)
 
--- the rows of a model, and the rowids of a record
+-- The rows of a model, and the rowids of a record.
 abbrev pub of_model : Query
 of_model = over 1 (is (col 1 1) (col 0 0) ∷ []) (col 1 2 ∷ col 1 4 ∷ col 1 5 ∷ []) (by 2 ∷ by 3 ∷ [])
 

@@ -1,4 +1,4 @@
--- Parts of a statement that ran, and values that a STRICT table takes as they are.
+-- Parts of a statement that ran, and values that a STRICT table stores unchanged.
 use Rattle.std.proofs.Common.{◌≡◌, ◌⊎◌, inl, inr, ℕ, ℤ, pos, List, [], ◌∷◌, Bool, true, false, cond, Ok, Err, Result, refl}
 use Rattle.sqlite_value.specs.declared.value.Value.{Value}
 use Rattle.sqlite_value.specs.declared.value.Value.TheVariants.{Null, Int, Blob}
@@ -7,7 +7,7 @@ use Rattle.sqlite.specs.Ops.{unary}
 use Rattle.sqlite.specs.Kind.TheVariants.{Integer}
 use Rattle.sqlite.specs.Cast.{cast}
 
--- the columns of an alternative
+-- The columns of an alternative.
 abbrev pub columns : ℕ → List ℕ → ℕ → List ℕ → List ℕ → Row
 columns model jid alt jvars body = Int (pos model) ∷ Blob jid ∷ Int (pos alt) ∷ Blob jvars ∷ Blob body ∷ []
 

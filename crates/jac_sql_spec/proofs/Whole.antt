@@ -27,7 +27,7 @@ module _ {S : Type 0} (g : Ghosts S) (schema : List ℕ) where
   unfolding numbering
   one_numbered m a b s ran st = subst (λ h. Stands schema (state g h).now (record s { number = m })) (sym ran.3) (number_set schema (state g a) (state g ran.0) m ran.1 s st ran.2.0)
 
-  -- the statements of a change lead from a state to the changed one
+  -- The statements of a change lead from a state to the changed state.
   pub changed : (c : Change) (a b : Held S) (s : State) → AreNarrow c.changed → AreOwn c.changed → ArePlaced c.changed (length s.tables) → AreKept s.tables
       → Ran g (sql_statements c) a b → Stands schema (state g a).now s → Stands schema (state g b).now (changed_state c s)
   changed c a b s narrow own within kept ran st =
@@ -42,7 +42,7 @@ module _ {S : Type 0} (g : Ghosts S) (schema : List ℕ) where
       subst (λ h. Stands after (state g h).now (record s { number = m })) (sym ran.3)
       (record { schema_is = r.schema_is; meta = r.meta_is; rec = subst (λ rows. Holds rows (facts s.tables)) (sym r.rec_is) st.rec })
 
-  -- so do those that bring another schema
+  -- So do the statements of a change that brings another schema.
   pub reshaped : (c : Change) (after : List ℕ) (a b : Held S) (s : State) → AreNarrow c.changed → AreOwn c.changed → ArePlaced c.changed (length s.tables) → AreKept s.tables
       → Ran g (statements_with c (Some after)) a b → Stands schema (state g a).now s → Stands after (state g b).now (changed_state c s)
   reshaped c after a b s narrow own within kept ran st =

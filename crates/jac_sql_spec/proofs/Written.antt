@@ -1,4 +1,4 @@
--- One statement of a record: its alternatives are gone, or one is there that was not.
+-- One statement about a record: it removes the alternatives, or adds one.
 use Rattle.std.proofs.Common.{◌≡◌, ℕ, ℤ, pos, ◌<◌, ◌^◌, List, [], ◌∷◌, ◌++◌, map, filter, length, Bool, false, not, Ok, ◌+◌, refl, sym, ap, subst, ◌∙◌, arith, IsPermutation}
 use Rattle.std.proofs.lemmas.List.Sorted.{IsPermutation-map, IsPermutation-sym, IsPermutation-trans, IsPermutation-cons}
 use Rattle.sqlite_value.specs.declared.value.Value.TheVariants.{Int, Blob}
@@ -40,7 +40,7 @@ id_of o = id_in (rowid o.1)
 abbrev mine : ℕ → List ℕ → Line → Bool
 mine model jid l = is_fact_of model jid (fact l)
 
--- the rowids that text 3 finds
+-- The rowids of the rows that a removal deletes.
 found_ids : (old : Sql) (model : ℕ) (jid : List ℕ) (lines : List Line) (found : List Values) → old.now.trees 1 ≡ map encode lines
     → IsAnswer of_record (overlay old.now.trees []) (asked model jid) found → IsPermutation (ids_of found) (map (λ (l : Line). l.at) (filter (mine model jid) lines))
 found_ids old model jid lines found stored a =

@@ -1,4 +1,4 @@
--- What a database has of a state: a row of rec for each alternative, but for its rowid.
+-- The rows of `rec` that a database has for a state, one for each alternative, without rowids.
 use Rattle.std.specs.Prelude.{◌≡◌, ℕ, ◌+◌, ◌<◌, ◌^◌, ◌==◌, ◌&&◌, if◌then◌else◌, Bool, List, [], ◌∷◌, ◌++◌, ⊤}
 use Rattle.std.specs.declared.cmp.Ordering.{Ordering}
 use Rattle.std.specs.Ordering.{nat_cmp, ordering_then, is_eq}
@@ -10,7 +10,7 @@ use Rattle.jac_rows.specs.declared.row.Row.{Row}
 use Rattle.jac_row_codec.specs.Spelling.{guard_bytes, cells_bytes}
 use Rattle.jac_keep.specs.Records.{AreOrdered}
 
--- a row of rec, but for its rowid
+-- A row of `rec` without its rowid.
 pub record Fact : Type 0 where
   pub model : ℕ
   pub jid : List ℕ
@@ -18,11 +18,11 @@ pub record Fact : Type 0 where
   pub jvars : List ℕ
   pub body : List ℕ
 
--- the bytes of an id
+-- The bytes of an id.
 abbrev pub id_bytes : ℕ → List ℕ
 id_bytes id = to_be_bytes w128 id
 
--- an alternative of this number
+-- The fact of an alternative with this number.
 abbrev pub fact_of : ℕ → ℕ → Row → Fact
 fact_of model alt r = record {
   model = model;
@@ -32,14 +32,15 @@ fact_of model alt r = record {
   body = cells_bytes r.cells;
 }
 
--- how many alternatives of each record there are, after one more
+-- How many alternatives of each record there are, with one more of this record.
 abbrev pub count_with : ℕ → (ℕ → ℕ) → ℕ → ℕ
 count_with id before i = if i == id then before i + 1 else before i
 
 abbrev pub none_yet : ℕ → ℕ
 none_yet id = 0
 
--- each row with the number of its record's alternatives before it
+-- The fact of each row. An alternative's number is how many alternatives of its record come before
+-- it.
 abbrev pub numbered_facts : ℕ → (ℕ → ℕ) → List Row → List Fact
 numbered_facts model before [] = []
 numbered_facts model before (r ∷ rs) = fact_of model (before r.id) r ∷ numbered_facts model
@@ -49,28 +50,28 @@ abbrev pub facts_from : ℕ → List (List Row) → List Fact
 facts_from model [] = []
 facts_from model (t ∷ ts) = numbered_facts model none_yet t ++ facts_from (model + 1) ts
 
--- the facts of all tables, by model, id and number
+-- The facts of all tables, by model, id and number.
 abbrev pub facts : List (List Row) → List Fact
 facts tables = facts_from 0 tables
 
--- by model, by the bytes of the id, by number
+-- Compares the models, then the bytes of the ids, then the numbers.
 abbrev pub fact_cmp : Fact → Fact → Ordering
 fact_cmp a b = ordering_then (nat_cmp a.model b.model)
     (ordering_then (slice_cmp nat_cmp a.jid b.jid) (nat_cmp a.alt b.alt))
 
--- a row of the model, whose id has room in 16 bytes
+-- The row's id belongs to this model and fits into 16 bytes.
 pub record IsPlaced (model : ℕ) (r : Row) : Type 0 where
   pub of_model : model_of_id r.id ≡ model
   pub room : r.id < 2 ^ 128
 
--- tables whose ids don't fall, with rows of their own model
+-- The rows of each table belong to its model, and their ids don't fall.
 abbrev pub ArePlacedFrom : ℕ → List (List Row) → Type 0
 ArePlacedFrom = AreTablesOf AreOrdered IsPlaced
 
 abbrev pub AreKept : List (List Row) → Type 0
 AreKept = ArePlacedFrom 0
 
--- tests of facts, as the database makes them
+-- Tests of facts, as the database makes them.
 abbrev pub is_fact_in : ℕ → Fact → Bool
 is_fact_in model f = is_eq (nat_cmp f.model model)
 

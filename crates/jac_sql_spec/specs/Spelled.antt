@@ -1,4 +1,4 @@
--- Guards and cells as their bytes spell them, by the tags alone; total.
+-- Guards and cells that bytes encode, decoded by the tags alone. The functions are total.
 use Rattle.std.specs.Prelude.{◌≡◌, ℕ, zero, suc, ◌+◌, ◌*◌, ◌<◌, ◌^◌, ◌==◌, Bool, ⊤, if◌then◌else◌, List, [], ◌∷◌, length, take, drop, fold, slice_index_or, Some, None}
 use Rattle.std.specs.List.{AllByRecursion}
 use Rattle.std.specs.Int.{w64, cast_signed}
@@ -7,14 +7,14 @@ use Rattle.jac_value.specs.declared.value.Value.TheVariants.{Int, Text, Bool as 
 use Rattle.jac_rows.specs.declared.row.Row.{Row}
 use Rattle.jac_row_codec.specs.Spelling.{IsGuard, IsCell, IsNarrow}
 
--- the number of these bytes, the most significant first
+-- The number of these bytes, the most significant first.
 abbrev pub number_in : List ℕ → ℕ
 number_in = fold (λ n b. n * 256 + b) 0
 
 abbrev pub sign_in : ℕ → Bool
 sign_in b = b == 1
 
--- so many pairs at most
+-- At most this many pairs.
 abbrev pub guard_pairs : ℕ → List ℕ → List (ℕ × Bool)
 guard_pairs zero bytes = []
 guard_pairs (suc n) [] = []
@@ -25,7 +25,7 @@ guard_pairs (suc n) (b ∷ bs) =
 abbrev pub guard_in : List ℕ → List (ℕ × Bool)
 guard_in bytes = guard_pairs (length bytes) bytes
 
--- behind a reference's tag
+-- The reference after its tag, and the bytes after it.
 abbrev pub ref_in : List ℕ → Value × List ℕ
 ref_in [] = (Ref None, [])
 ref_in (b ∷ bs) = if b == 1 then (Ref (Some (number_in (take 16 bs))), drop 16 bs)
@@ -34,7 +34,7 @@ ref_in (b ∷ bs) = if b == 1 then (Ref (Some (number_in (take 16 bs))), drop 16
 abbrev pub text_in : ℕ → List ℕ → Value × List ℕ
 text_in long bytes = (Text (take long bytes), drop long bytes)
 
--- after a tag
+-- The value after its tag, and the bytes after it.
 abbrev pub tagged_body : ℕ → List ℕ → Value × List ℕ
 tagged_body tag bytes =
     if tag == 1 then (Int (cast_signed w64 (number_in (take 8 bytes))), drop 8 bytes)
@@ -42,7 +42,7 @@ tagged_body tag bytes =
     else (if tag == 3 then (Truth (sign_in (slice_index_or bytes 0 0)), drop 1 bytes)
     else ref_in bytes))
 
--- so many cells at most
+-- At most this many cells.
 abbrev pub some_cells_in : ℕ → List ℕ → List Value
 some_cells_in zero bytes = []
 some_cells_in (suc n) [] = []
@@ -51,7 +51,7 @@ some_cells_in (suc n) (b ∷ bs) = (tagged_body b bs).0 ∷ some_cells_in n (tag
 abbrev pub cells_in : List ℕ → List Value
 cells_in bytes = some_cells_in (length bytes) bytes
 
--- a row that its bytes spell, whatever the kinds of its cells
+-- The row's bytes can be read back, whatever the kinds of its cells.
 pub record IsSpelled (r : Row) : Type 0 where
   pub room : r.id < 2 ^ 128
   pub guard : IsGuard r.guard

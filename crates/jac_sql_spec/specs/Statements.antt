@@ -1,4 +1,4 @@
--- The statements that found a store, and those that store a change.
+-- The SQL statements that create a store, read it, and store a change.
 use Rattle.std.specs.Prelude.{ℕ, ◌+◌, pos, List, [], ◌∷◌, ◌++◌, Option, Some, None, codes}
 use Rattle.std.specs.Int.{w128, to_be_bytes}
 use Rattle.sqlite_value.specs.Order.{Row as Values}
@@ -9,12 +9,12 @@ use Rattle.jac_row_codec.specs.Spelling.{guard_bytes, cells_bytes}
 use Rattle.jac_keep.specs.declared.alteration.Alteration.{Alteration}
 use Rattle.jac_keep.specs.declared.alteration.Change.{Change}
 
--- a text, and the values of its parameters
+-- An SQL text, and the values of its parameters.
 pub record SqlStatement : Type 0 where
   pub text : List ℕ
   pub params : Values
 
--- the table of the number and the schema, that of the rows, and the first number
+-- Makes the table of the number and the schema and the table of the rows, and stores the number 1.
 unfoldable pub founding : List ℕ → List SqlStatement
 founding schema =
     record {
@@ -33,19 +33,19 @@ founding schema =
     }
     ∷ []
 
--- what is asked for the number and the schema
+-- The query for the number and the schema.
 unfoldable pub reading : List ℕ
 reading = codes "SELECT number, schema FROM meta WHERE k = 0"
 
--- what is asked for the keys of meta, and for all rows of rec, in the order of the index, so that
--- one after another can be looked up
+-- The queries for the keys of `meta` and for all rows of `rec`. The order is that of the index, so
+-- that the rows can be looked up one after another.
 unfoldable pub key_reading : List ℕ
 key_reading = codes "SELECT k FROM meta"
 
 unfoldable pub all_reading : List ℕ
 all_reading = codes "SELECT model, jid, alt, jvars, body, rowid FROM rec ORDER BY model, jid, alt"
 
--- what is asked for the rows of a model, and for those of a record
+-- The queries for the rows of a model and for the rows of a record.
 unfoldable pub model_reading : ℕ → SqlStatement
 model_reading model = record {
   text = codes "SELECT jid, jvars, body FROM rec WHERE model = ?1 ORDER BY jid, alt";
@@ -64,7 +64,7 @@ removal id = record {
   params = Int (pos (model_of_id id)) ∷ Blob (to_be_bytes w128 id) ∷ [];
 }
 
--- an alternative of this number
+-- Stores an alternative under this number.
 unfoldable pub addition : ℕ → Row → SqlStatement
 addition alt row = record {
   text = codes "INSERT INTO rec(model, jid, alt, jvars, body) VALUES(?1, ?2, ?3, ?4, ?5)";
@@ -78,19 +78,19 @@ numbering number = record {
   params = Int (pos number) ∷ [];
 }
 
--- the number and the schema text
+-- Stores the number and the schema text.
 unfoldable pub reshaping : ℕ → List ℕ → SqlStatement
 reshaping number schema = record {
   text = codes "UPDATE meta SET number = ?1, schema = ?2 WHERE k = 0";
   params = Int (pos number) ∷ Text schema ∷ [];
 }
 
--- the alternatives, numbered from this one on
+-- Stores the alternatives, numbered from `alt` on.
 abbrev pub additions : ℕ → List Row → List SqlStatement
 additions alt [] = []
 additions alt (r ∷ rs) = addition alt r ∷ additions (alt + 1) rs
 
--- a record is replaced whole
+-- Replaces a whole record.
 abbrev pub replacement : Alteration → List SqlStatement
 replacement a = removal a.id ∷ additions 0 a.rows
 
@@ -101,11 +101,11 @@ replacements (a ∷ rest) = replacement a ++ replacements rest
 abbrev pub sql_statements : Change → List SqlStatement
 sql_statements change = replacements change.changed ++ (numbering change.number ∷ [])
 
--- the number, and a schema text where there is one
+-- Stores the number, and the schema text if there is one.
 abbrev pub settings : ℕ → Option (List ℕ) → List SqlStatement
 settings number None = numbering number ∷ []
 settings number (Some schema) = reshaping number schema ∷ []
 
--- those of a change that may bring another schema
+-- The statements of a change that may bring another schema.
 abbrev pub statements_with : Change → Option (List ℕ) → List SqlStatement
 statements_with change schema = replacements change.changed ++ settings change.number schema

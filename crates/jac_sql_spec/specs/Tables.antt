@@ -1,4 +1,4 @@
--- The two tables of a keeper, with their trees, and the rows that meta has.
+-- The two tables of a keeper with their trees, and the one row of `meta`.
 use Rattle.std.specs.Prelude.{◌≡◌, ℕ, ℤ, pos, negsuc, Bool, true, false, List, [], ◌∷◌, Some, None, codes, slice_index_or}
 use Rattle.sqlite_value.specs.declared.value.Value.TheVariants.{Null, Int, Real, Blob as Bytes, Text as Words}
 use Rattle.sqlite_value.specs.declared.keys.Collation.TheVariants.{Binary}
@@ -14,11 +14,11 @@ use Rattle.sqlite_schema.specs.declared.schema.Schema.{Schema}
 use Rattle.sqlite.specs.Effect.{Database}
 use Rattle.sqlite.specs.State.{State}
 
--- a database that has nothing
+-- The schema of an empty database.
 abbrev pub no_tables : Schema
 no_tables = record { tables = []; indexes = []; views = [] }
 
--- a column that takes values of its type alone, and no NULL
+-- A column that takes values of its own type only, and no NULL.
 abbrev pub strict : List ℕ → Kind → Column
 strict name kind = record {
   name = name;
@@ -29,7 +29,7 @@ strict name kind = record {
   collation = Binary;
 }
 
--- the table of the number and the schema, in this tree
+-- The table of the number and the schema, in this tree.
 abbrev pub meta : ℕ → Table
 meta m = record {
   name = codes "meta";
@@ -54,7 +54,7 @@ meta m = record {
   is_counted = false;
 }
 
--- the table of the rows
+-- The table of the rows, in this tree.
 abbrev pub rec : ℕ → Table
 rec r = record {
   name = codes "rec";
@@ -72,7 +72,7 @@ rec r = record {
   is_counted = false;
 }
 
--- the index of its key
+-- The index of the primary key of `rec`.
 abbrev pub only_key : ℕ → ℕ → Index
 only_key r i = record {
   name = codes "sqlite_autoindex_rec_1";
@@ -84,10 +84,10 @@ only_key r i = record {
   is_unique = true;
 }
 
--- what a keeper's database has, its tables and the index in these trees
+-- The schema of a keeper's database, with its tables and the index in these trees.
 abbrev pub two_tables : ℕ → ℕ → ℕ → Schema
 two_tables m r i = record { tables = meta m ∷ rec r ∷ []; indexes = only_key r i ∷ []; views = [] }
 
--- the one row of meta
+-- The one row of `meta`.
 abbrev pub meta_row : ℕ → List ℕ → Row
 meta_row number schema = Int (pos 0) ∷ Null ∷ Int (pos number) ∷ Words schema ∷ []

@@ -1,4 +1,4 @@
--- A database that tells a state while its connection is open, and what calls leave of it.
+-- A database that represents a state while its connection is open, and what calls leave of it.
 use Rattle.std.specs.Prelude.{◌≡◌, ℕ, Bool, List, IsTrue, IfOk, Result, Ok, Err, OnOk, OnErr}
 use Rattle.std.specs.List.{AllByRecursion}
 use Rattle.sqlite_trees.specs.declared.store.Store.{Ghosts}
@@ -19,46 +19,48 @@ use Rattle.jac_keep.specs.Schema.{empties}
 use Rattle.jac_sql_spec.specs.Stands.{Stands, AreNarrow}
 use Rattle.jac_sql_spec.specs.Told.{told, schema_in, AreSpelled}
 
--- a state of so many models that has no records
+-- A state with this many models and no records.
 abbrev pub empty_state : ℕ → State
 empty_state models = record { tables = empties models; number = 1 }
 
--- what the database tells is what it stands for
+-- The database stands for the state that it tells. This state is sound, and its rows can be read
+-- back from their bytes.
 pub record IsDatabaseTold (models : ℕ) (db : Database) : Type 0 where
   pub schema : List ℕ
   pub stands : Stands schema db (told models db)
   pub sound : IsSound (told models db)
   pub spelled : AreSpelled (told models db).tables
 
--- while it is open, what is seen is what is committed, and it is told
+-- If the connection is open, all of the database is committed, and the database tells a state.
 pub record IsAllCommitted (models : ℕ) (s : Sql) : Type 0 where
   pub settled : IsTrue s.is_open → s.now ≡ s.committed
   pub told_by : IsTrue s.is_open → IsDatabaseTold models s.now
 
--- the state that is told afterwards was told before
+-- The call changed nothing of the state that is told.
 pub record StaysCommitted (models : ℕ) (old new : Sql) : Type 0 where
   pub told_before : IsTrue new.is_open → IsTrue old.is_open
   pub same : IsTrue new.is_open → told models new.now ≡ told models old.now
 
--- what was read is what the state has, and nothing was changed
+-- If the call succeeded, it read what the state has. It changed nothing.
 pub record ReadsTold {S T : Type 0} (g : Ghosts S) (Is : State → T → Type 0) (models : ℕ)
     (old new : Held S) (result : Result T Error) : Type 0 where
   pub kept : IsAllCommitted models (state g new)
   pub left : StaysCommitted models (state g old) (state g new)
   pub exact : IsTrue (state g new).is_open → IfOk result (Is (told models (state g old).now))
 
--- rows of altered records that can be spelled
+-- The rows of the altered records can be spelled.
 abbrev pub CanAllBeSpelled : List Alteration → Type 0
 CanAllBeSpelled = AllByRecursion (λ (a : Alteration). AllByRecursion CanBeSpelled a.rows)
 
--- each altered record is one of so many models, and its rows are its own and can be spelled
+-- Each altered record belongs to one of the models, and its id fits into 16 bytes. Its rows are its
+-- own and can be spelled.
 pub record CanBeStored (models : ℕ) (xs : List Alteration) : Type 0 where
   pub narrow : AreNarrow xs
   pub own : AreOwn xs
   pub placed : ArePlaced xs models
   pub spelled : CanAllBeSpelled xs
 
--- the change was applied where it was told that it was, and else nothing was changed
+-- If the call succeeded, the change was applied. If not, nothing was changed.
 pub record AppliesTold {S : Type 0} (g : Ghosts S) (models : ℕ) (change : Change) (old new : Held S)
     (result : Result (Unit {0}) Error) : Type 0 where
   pub kept : IsAllCommitted models (state g new)
@@ -69,8 +71,8 @@ pub record AppliesTold {S : Type 0} (g : Ghosts S) (models : ℕ) (change : Chan
   pub refused : IsTrue (state g new).is_open
       → OnErr result (told models (state g new).now ≡ told models (state g old).now)
 
--- the change was applied and the store brought to so many models where it was told that it was, and
--- else nothing was changed
+-- If the call succeeded, the change was applied, the state has `more` models, and the schema is
+-- stored. If not, nothing was changed.
 pub record ReshapesTold {S : Type 0} (g : Ghosts S) (models more : ℕ) (change : Change)
     (schema : List ℕ) (old new : Held S) (result : Result (Unit {0}) Error) : Type 0 where
   pub told_before : IsTrue (state g new).is_open → IsTrue (state g old).is_open

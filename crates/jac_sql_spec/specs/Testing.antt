@@ -17,7 +17,7 @@ use Rattle.jac_sql_spec.specs.Spelled.{IsSpelled}
 use Rattle.jac_sql_spec.specs.Statements.{key_reading, all_reading}
 use Rattle.jac_sql_spec.specs.Told.{natural_in, bytes_in_value, AreSpelled}
 
--- the fact of a row that the question for all rows shows
+-- The fact in a row that the query for all rows shows.
 abbrev pub fact_shown : Values → Fact
 fact_shown v = record {
   model = natural_in (column v 0);
@@ -27,7 +27,7 @@ fact_shown v = record {
   body = bytes_in_value (column v 4);
 }
 
--- such a row shows this fact
+-- A row that the query for all rows shows has this fact.
 pub record IsLineShown (v : Values) (f : Fact) : Type 0 where
   pub model : column v 0 ≡ Int (pos f.model)
   pub jid : column v 1 ≡ Blob f.jid
@@ -37,7 +37,7 @@ pub record IsLineShown (v : Values) (f : Fact) : Type 0 where
 
 -- ---- keys and rowids
 
--- there is one row, whose key is 0
+-- There is one row, and its key is 0.
 pub record IsOneKey (found : List Values) : Type 0 where
   pub only : Values
   pub one : found ≡ only ∷ []
@@ -47,12 +47,12 @@ abbrev pub IsAbove : Option ℤ → ℤ → Type 0
 IsAbove None at = ⊤
 IsAbove (Some last) at = last <ℤ at
 
--- the numbers rise, from above this one on
+-- The numbers rise, and the first is greater than `last`, if there is one.
 abbrev pub AreAbove : Option ℤ → List ℤ → Type 0
 AreAbove last [] = ⊤
 AreAbove last (at ∷ more) = IsAbove last at × AreAbove (Some at) more
 
--- each row shows a rowid, and none comes twice: brought into order they rise
+-- Each row shows a rowid, and no rowid comes twice: some order of them rises.
 pub record AreRowidsApart (found : List Values) : Type 0 where
   pub rowids : List ℤ
   pub shown : map (λ v. column v 5) found ≡ map Int rowids
@@ -62,16 +62,16 @@ pub record AreRowidsApart (found : List Values) : Type 0 where
 
 -- ---- rows
 
--- From the record whose alternatives were read last, with their guards, to that of the next row,
--- with those of its alternatives before it: it is the same one, or it comes after all that were
--- read.
+-- From the record of the last row, with the guards of its alternatives so far, to the record of the
+-- next row, with the guards of its alternatives before that row. It is the same record, or it comes
+-- after all records that were read.
 abbrev pub MovesOn : ℕ → ℕ → List (List (ℕ × Bool)) → ℕ → ℕ → List (List (ℕ × Bool)) → Type 0
 MovesOn model id guards next_model next_id before =
     ((model ≡ next_model) × (id ≡ next_id) × (before ≡ guards))
     ⊎ ((before ≡ []) × ((model < next_model) ⊎ ((model ≡ next_model) × (id < next_id))))
 
--- the next alternative of a record that has alternatives of these guards, for a store of these
--- shapes
+-- The row is the next alternative of a record of such a store. The guards of the record's
+-- alternatives are `before` without this one and `guards` with it.
 pub record IsNextLine (shapes : List ModelShape) (number model id : ℕ)
     (before guards : List (List (ℕ × Bool))) (v : Values) : Type 0 where
   pub row : Row
@@ -82,7 +82,7 @@ pub record IsNextLine (shapes : List ModelShape) (number model id : ℕ)
   pub apart : AllByRecursion (λ g. IsApart g row.guard) before
   pub guards_are : guards ≡ before ++ row.guard ∷ []
 
--- a row of a model, but for the number of the alternative
+-- A row of a model. Nothing is said of the alternative's number.
 pub record IsStoredRow (shapes : List ModelShape) (number model : ℕ) (v : Values) (row : Row) : Type
     0 where
   pub jid : column v 1 ≡ Blob (id_bytes row.id)
@@ -91,7 +91,7 @@ pub record IsStoredRow (shapes : List ModelShape) (number model : ℕ) (v : Valu
   pub is_record : IsRecord shapes model number row.id row.cells
   pub spelled : IsSpelled row
 
--- a row is read after the others
+-- This row is read after the others.
 pub record ReadsOn (shapes : List ModelShape) (number model id : ℕ)
     (guards : List (List (ℕ × Bool))) (v : Values) (next_model next_id : ℕ)
     (next_guards : List (List (ℕ × Bool))) : Type 0 where
@@ -99,7 +99,7 @@ pub record ReadsOn (shapes : List ModelShape) (number model id : ℕ)
   pub moved : MovesOn model id guards next_model next_id before
   pub line : IsNextLine shapes number next_model next_id before next_guards v
 
--- the rows are those of tables of these shapes
+-- The rows are those of tables of these shapes.
 pub record AreLinesOf (shapes : List ModelShape) (number : ℕ) (found : List Values) : Type 0 where
   pub tables : List (List Row)
   pub long : length tables ≡ length shapes
@@ -108,7 +108,7 @@ pub record AreLinesOf (shapes : List ModelShape) (number : ℕ) (found : List Va
   pub read : facts tables ≡ map fact_shown found
   pub lines : AllByRecursion (λ v. IsLineShown v (fact_shown v)) found
 
--- ---- what the questions showed
+-- ---- what the queries showed
 
 pub record ShowsKey {S : Type 0} (g : Ghosts S) (old new : Held S) : Type 0 where
   pub found : List Values
@@ -122,7 +122,7 @@ pub record ShowsLines {S : Type 0} (g : Ghosts S) (shapes : List ModelShape) (nu
   pub rowids : AreRowidsApart found
   pub are : AreLinesOf shapes number found
 
--- the number, and then the rows, which are those of tables of these shapes
+-- The number was read first, and then the rows, which are those of tables of these shapes.
 pub record ShowsStored {S : Type 0} (g : Ghosts S) (shapes : List ModelShape) (old new : Held S) :
     Type 0 where
   pub number : ℕ

@@ -1,4 +1,4 @@
--- The state that a database tells: a total function of it.
+-- The state that is read from a database, as a total function of it.
 use Rattle.std.specs.Prelude.{◌≡◌, ℕ, zero, suc, ◌+◌, ℤ, pos, negsuc, ⊤, List, [], ◌∷◌, map, filter, length, slice_index_or}
 use Rattle.std.specs.List.{AllByRecursion}
 use Rattle.sqlite_value.specs.Order.{Row as Values, column}
@@ -33,7 +33,7 @@ chars_in (Int n) = []
 chars_in (Real x) = []
 chars_in (Blob b) = []
 
--- the fact of a row of rec
+-- The fact of a row of `rec`.
 abbrev pub fact_in : Values → Fact
 fact_in r = record {
   model = natural_in (column r 1);
@@ -46,7 +46,7 @@ fact_in r = record {
 abbrev pub row_in : Fact → Row
 row_in f = record { id = number_in f.jid; guard = guard_in f.jvars; cells = cells_in f.body }
 
--- the tables of so many models, from one on
+-- The tables of `n` models, from `first` on.
 abbrev pub tables_in : ℕ → ℕ → List Fact → List (List Row)
 tables_in first zero all = []
 tables_in first (suc n) all = map row_in (filter (is_fact_in first) all) ∷ tables_in (first + 1) n
@@ -58,7 +58,7 @@ told models db = record {
   number = natural_in (column (slice_index_or (db.trees 0) 0 []) 2);
 }
 
--- the schema text of the first row of meta
+-- The schema text in the first row of `meta`.
 abbrev pub schema_in : Database → List ℕ
 schema_in db = chars_in (column (slice_index_or (db.trees 0) 0 []) 3)
 

@@ -1,3 +1,2 @@
-//! What the tables of a stored state have: the rows of a database that stand for a state, the state
-//! that it tells, and what each statement of a keeper leaves of them.
+//! Defines what the SQL statements of a store mean. It has definitions and laws, but no functions.
 #![tactic(auto)]
