@@ -17,7 +17,7 @@ use Rattle.jac_keep.specs.declared.vault.AttachFault.TheVariants.{Failed, Memory
 use Rattle.jac_sqlkeep.specs.Based.{Based, OpensBased, Begins, Stood, ReshapesBased}
 use Rattle.jac_sqlkeep.specs.Kept.{Kept, seen_kept, tells_of, based_state, IsRefusedAs, BeginsGiven, StoodAs, IsLeftAs, LearnsSchema}
 
--- before it was called it told nothing
+-- Before it was called, its state wasn't known.
 untold : (database : Option Based) (called : Bool) → (IsTrue (is_some database) → IsTrue called) → called ≡ false → tells_of database ≡ false
 untold None called known first = refl
 untold (Some d) called known first = absurd (true≢false (sym (known refl) ∙ first))
@@ -61,7 +61,7 @@ brought_fit k d schema shapes kinds nested change base is also fits told =
     subst (λ n. IsFit (shapes_by kinds nested) (widened_state n s)) (length_shapes kinds nested) (subst (λ ks. IsFit ks (widened_state (length ks) s)) same fit)
 
 module _ (called : Bool) (before name : Option (List ℕ)) (faults unopened given : ℕ) (refused database : Option Based) where
-  -- what such a keeper was
+  -- The keeper before the call.
   abbrev was : Kept
   was = record { store = record { called = called; attached = is_some database; schema = before; name = name }; faults = faults; unopened = unopened; given = given; database = database; refused = refused }
 
@@ -115,14 +115,14 @@ module _ {S E : Type 0} (g : Ghosts S) (Gives : Held S → Type 0) (schema : Lis
   left_failed old new e Memory one is some = inr (one, stood_as (subst (OpensBased g schema kinds nested given b) is opens) new.refused some)
   left_failed old new e (Other told) one is some = (one, stood_as (subst (OpensBased g schema kinds nested given b) is opens) new.refused some)
 
--- nothing was opened
+-- If nothing was opened.
 pub left_unopened : {S : Type 0} (g : Ghosts S) (Gives : Held S → Type 0) (old new : Kept) (fault : AttachFault) → (fault ≡ Failed → Rose old.unopened new.unopened) → ((stored : List ℕ) → ¬ (fault ≡ Other stored))
     → new.given ≡ old.given → new.refused ≡ old.refused → IsLeftAs g Gives old new (Err fault)
 left_unopened g Gives old new Failed rose other none same = inl (none, rose refl)
 left_unopened g Gives old new Memory rose other none same = inl (none, same)
 left_unopened g Gives old new (Other stored) rose other none same = absurd (other stored refl)
 
--- ---- what is known where nothing was attached
+-- ---- what is known if nothing was attached
 
 pub learns_other : (old before new : Kept) (b : Based) (stored : List ℕ) (result : Result (Unit {0}) AttachFault) → before.store.schema ≡ old.store.schema → before.faults ≡ old.faults → IsRefusedAs before new b stored result → LearnsSchema old new result
 learns_other old before new b stored (Ok done) schema faults refused = absurd refused

@@ -1,4 +1,4 @@
--- What a database tells that was read, changed or opened.
+-- What is known of a database that was read, changed or opened.
 use Rattle.std.proofs.Common.{◌≡◌, inl, refl, sym, ap, subst, ◌∙◌, ℕ, zero, suc, ◌+◌, ◌≤◌, Bool, true, false, true≢false, List, [], ◌∷◌, length, Option, Some, None, IfSome, Ok, Err, Result, IfOk, IfErr, OnOk, OnErr, IsTrue, slice_get, arith}
 use Rattle.sqlite_trees.specs.declared.store.Store.{Ghosts}
 use Rattle.sqlite.specs.declared.error.Error.{Error}
@@ -48,14 +48,14 @@ module _ {S : Type 0} (g : Ghosts S) (kinds : List (List Kind)) (old new : Held 
       let it = told refl in
       record { told_before = it.told_before; good = λ t. (it.kept.told_by t).sound; exact = it.exact; refused = it.refused }
 
--- a change that is asked to leave a sound state of what is told leaves one of what is seen
+-- A change that has to leave the known state sound leaves the seen state sound.
 pub sound_before : {S : Type 0} (g : Ghosts S) (kinds : List (List Kind)) (h : Held S) (change : Change) (known : Bool) → IsTrue known → (IsTrue (based_keeper g kinds known h).tells → IsSound (changed_state change (based_keeper g kinds known h).state))
     → IsTrue (state g h).is_open → IsSound (changed_state change (told (length kinds) (state g h).now))
 sound_before g kinds h change true known sound opened = sound opened
 sound_before g kinds h change false known sound opened = never known
 
 module _ {S : Type 0} (g : Ghosts S) (kinds more : List (List Kind)) (nested : List Bool) (old new : Held S) (change : Change) (schema : List ℕ) where
-  -- a change that brings another schema, over a database that tells
+  -- A change that brings another schema, over a database whose state is known.
   pub reshaped_told : ((state g new).is_clean ≡ false → (state g new).is_open ≡ false) → (HasCleanDisk (state g new) → EndsCommitted (state g old) (state g new)) → (known : Bool) → (IsTrue known → IsAllCommitted (length kinds) (state g old))
       → (IsTrue (based_keeper g kinds known old).tells → IsFit (shapes_by more nested) (widened_state (length more) (changed_state change (based_keeper g kinds known old).state))) → (r : Result (Unit {0}) Error)
       → OnOk r (CanBeStored (length kinds) change.changed) → Transacts g (statements_with change (Some schema)) old new r → IsTrue known → ReshapesTold g (length kinds) (length more) change schema old new r
@@ -124,12 +124,12 @@ found_based field value model old new r found reads are none = record {
 
 -- ---- opening
 
--- a state without records fits every schema
+-- A state without records fits every schema.
 pub fits_empty : (kinds : List (List Kind)) (nested : List Bool) (s : State) → s ≡ empty_state (length kinds) → IsFit (shapes_by kinds nested) s
 fits_empty kinds nested s is =
     subst (IsFit (shapes_by kinds nested)) (sym (is ∙ ap empty_state (sym (length_shapes kinds nested)))) (empties_fit (shapes_by kinds nested) (record { tables = []; number = 1 }) (omega arith, omega arith))
 
--- a keeper's tables are some
+-- A database with a keeper's tables isn't empty.
 some_tables : (s : Schema) → s ≡ two_tables 0 1 2 → ¬ (s ≡ no_tables)
 some_tables s has none = absurd (let e : two_tables 0 1 2 ≡ no_tables = sym has ∙ none in let e2 = ap (λ (s : Schema). length s.tables) e in cc)
 
@@ -137,16 +137,16 @@ module _ {S : Type 0} (g : Ghosts S) (kinds : List (List Kind)) (given h : Held 
   same_tables : (known : Bool) → (state g h).now ≡ (state g given).now → HasTables (state g given).now (based_keeper g kinds known h)
   same_tables known same = record { meta = ap (λ (d : Database). d.trees 0) same; rec = ap (λ (d : Database). d.trees 1) same }
 
-  -- what is seen is what is committed
+  -- What is seen is what is committed.
   committed_as : (known : Bool) → (state g h).now ≡ (state g h).committed → AreCommitted (based_keeper g kinds known h)
   committed_as known settled = record { meta = ap (λ (d : Database). d.trees 0) (sym settled); rec = ap (λ (d : Database). d.trees 1) (sym settled) }
 
-  -- one that is left as it stood
+  -- A database that is left as it was.
   pub stood_by : (b : Based) → b ≡ based_keeper g kinds false h → ConnectionLasts (state g given) (state g h) → (IsTrue (state g h).is_open → IsTrue (state g given).is_open)
       → (IsTrue (state g h).is_open → (state g h).now ≡ (state g given).now) → (IsTrue (state g h).is_open → (state g h).now ≡ (state g h).committed) → Stood g given b
   stood_by b is lasts was same settled = subst (Stood g given) (sym is) (record { was_open = was; kept = λ opened. same_tables false (same opened); settled = λ opened. committed_as false (settled opened); closes = lasts.closes; sure = λ law. law h.store })
 
-  -- one whose rows are known stands for what it tells
+  -- If the rows are known, they represent the known state.
   standing_of : (schema : List ℕ) → IsAllCommitted (length kinds) (state g h) → (IsTrue (state g h).is_open → schema_in (state g h).now ≡ schema) → IsTrue (state g h).is_open → IsStanding schema (based_keeper g kinds true h)
   standing_of schema kept stored opened =
       let it = kept.told_by opened in
@@ -157,11 +157,11 @@ module _ {S : Type 0} (g : Ghosts S) (kinds : List (List Kind)) (given h : Held 
         settled = committed_as true (kept.settled opened);
       }
 
-  -- a connection that is open was given with a disk that had returned what was written
+  -- An open connection was given with a disk that had returned what was written.
   clean_as_given : ((state g h).is_clean ≡ false → (state g h).is_open ≡ false) → ConnectionLasts (state g given) (state g h) → IsTrue (state g h).is_open → HasCleanDisk (state g given)
   clean_as_given law lasts opened = let later = lasts.clean in let clean = clean_if_open (state g h) law opened in omega (arith, later, clean)
 
-  -- a new store
+  -- A new store.
   pub begins_new : (schema : List ℕ) (nested : List Bool) → ((state g h).is_clean ≡ false → (state g h).is_open ≡ false) → ConnectionLasts (state g given) (state g h) → (state g given).now.schema ≡ no_tables → (IsTrue (state g h).is_open → IsTrue (state g given).is_open)
       → IsAllCommitted (length kinds) (state g h) → (IsTrue (state g h).is_open → told (length kinds) (state g h).now ≡ empty_state (length kinds)) → (IsTrue (state g h).is_open → schema_in (state g h).now ≡ schema)
       → Begins g schema kinds nested given (based_keeper g kinds true h)
@@ -180,7 +180,7 @@ module _ {S : Type 0} (g : Ghosts S) (kinds : List (List Kind)) (given h : Held 
     sure = λ law. law h.store;
   }
 
-  -- one that was made before
+  -- A store that was made before.
   pub begins_again : (schema : List ℕ) (nested : List Bool) → ((state g h).is_clean ≡ false → (state g h).is_open ≡ false) → ConnectionLasts (state g given) (state g h) → (state g given).now.schema ≡ two_tables 0 1 2 → IsSeenUnmoved (state g given) (state g h)
       → IsWhole g schema kinds nested h → Begins g schema kinds nested given (based_keeper g kinds true h)
   begins_again schema nested law lasts has left whole = record {
@@ -198,14 +198,14 @@ module _ {S : Type 0} (g : Ghosts S) (kinds : List (List Kind)) (given h : Held 
     sure = λ law. law h.store;
   }
 
--- one that nothing was done to
+-- A database to which nothing was done.
 pub stood_here : {S : Type 0} (g : Ghosts S) (kinds : List (List Kind)) (h : Held S) (b : Based) → b ≡ based_keeper g kinds false h → (IsTrue (state g h).is_open → (state g h).now ≡ (state g h).committed) → Stood g h b
 stood_here g kinds h b is settled =
     stood_by g kinds h h b is (record { clean = omega arith; counts = omega arith; closes = λ clean opened. inl opened }) (λ opened. opened) (λ opened. refl) settled
 
 -- ---- from call to call
 
--- what is told stands, and is committed
+-- The rows represent a known state, and they are committed.
 pub tells_standing : {S : Type 0} (g : Ghosts S) (kinds : List (List Kind)) (h : Held S) (known : Bool) → (IsTrue known → IsAllCommitted (length kinds) (state g h)) → TellsStanding (based_keeper g kinds known h)
 tells_standing g kinds h false kept = λ told. never told
 tells_standing g kinds h true kept = standing_of g kinds h h (schema_in (state g h).now) (kept refl) (λ opened. refl)

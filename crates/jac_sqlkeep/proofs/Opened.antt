@@ -1,4 +1,4 @@
--- A connection that is open was open before a question.
+-- A connection that is open was open before a query.
 use Rattle.std.proofs.Common.{◌≡◌, inl, inr, ℕ, false, List, Ok, Err, Result, IfOk, IfErr, IsTrue}
 use Rattle.sqlite_value.specs.Order.{Row as Values}
 use Rattle.sqlite.specs.declared.error.Error.{Error}
@@ -6,7 +6,7 @@ use Rattle.sqlite.specs.State.{State as Sql, HasCleanDisk, Shown, FailsToQuery, 
 use Rattle.jac_sql_spec.proofs.Stays.{Stays, clean_if_open, fails_stays, shown_open, row_open}
 
 module _ (old new : Sql) (law : new.is_clean ≡ false → new.is_open ≡ false) where
-  -- for all rows
+  -- For all rows.
   pub opened_by_rows : {V : Type 0} (items : V → List Values) (sql : List ℕ) (params : Values) (r : Result V Error) → (HasCleanDisk new → IfOk r (λ v. Shown sql params old new (items v)))
       → (HasCleanDisk new → IfErr r (FailsToQuery sql params old new)) → IsTrue new.is_open → IsTrue old.is_open
   opened_by_rows items sql params (Ok v) shown fails opened = shown_open old new sql params (items v) (shown (clean_if_open new law opened))
@@ -16,6 +16,6 @@ module _ (old new : Sql) (law : new.is_clean ≡ false → new.is_open ≡ false
       was (inl same) = same.0.was_open
       was (inr undone) = undone.was_open opened
 
-  -- for one row
+  -- For one row.
   pub opened_by_row : (sql : List ℕ) (params : Values) (r : Result Values Error) → (HasCleanDisk new → QueriesRow sql params old new r) → IsTrue new.is_open → IsTrue old.is_open
   opened_by_row sql params r asked opened = row_open old new sql params r (asked (clean_if_open new law opened)) opened

@@ -1,4 +1,4 @@
--- Guards in an order in which neighbours tell of all.
+-- Guards in an order in which only neighbours need to be compared.
 use Rattle.std.proofs.Common.{◌≡◌, ◌⊎◌, inl, inr, refl, sym, ap, ◌∙◌, subst, ℕ, ◌+◌, ◌≤◌, Bool, true, false, not, ◌&&◌, List, [], ◌∷◌, ◌++◌, length, length-append, take, drop, zero, suc, arith}
 use Rattle.std.specs.Prelude.{⊤}
 use Rattle.std.specs.List.{AllByRecursion, insert}
@@ -111,7 +111,7 @@ all_back : (P : Guard → Type 0) (xs ys : List Guard) → AllByRecursion P (xs 
 all_back P [] ys all = all
 all_back P (x ∷ xs) ys all = all_back P xs ys all.1
 
--- each of a front whose last one precedes the guard precedes it
+-- If the last guard of a front precedes the guard, each guard of the front does.
 front_precedes : (g : Guard) (xs ys : List Guard) → AreChained (xs ++ ys) → EndsBefore xs g → AllByRecursion (λ x. Precedes x g) xs
 front_precedes g [] ys order ends = tt
 front_precedes g (x ∷ []) ys order ends = (ends, tt)

@@ -17,7 +17,8 @@ use Rattle.jac_sql_spec.specs.Statements.{SqlStatement, reading}
 use Rattle.jac_sql_spec.specs.Founding.{IsNumberAsked, IsFrom}
 use Rattle.jac_sql_spec.specs.Reading.{Each, IsRowIn, IsModelRow, AreShown}
 
--- the rows so far, before the rows of the values from a place on, are those of all values
+-- The rows made so far, followed by the rows of the values from a place on, are the rows of all
+-- values.
 pub record MadeTo (Is : Values → Row → Type 0) (found : List Values) (at : ℕ) (made : List Row) : Type 0 where
   pub leads : (more : List Row) → Each Is (drop at found) more → Each Is found (made ++ more)
 
@@ -37,7 +38,7 @@ module _ (Is : Values → Row → Type 0) (found : List Values) where
   pub each_end : (at : ℕ) (made : List Row) → length found ≤ at → MadeTo Is found at made → Each Is found made
   each_end at made behind so = subst (Each Is found) (append-nil made) (so.leads [] (subst (λ (l : List Values). Each Is l []) (sym (drop_all at found behind)) tt))
 
--- a row after its id
+-- A row of a model after its id was read.
 pub model_row : (model : ℕ) (kinds : List Kind) (values : Values) (jid : List ℕ) (id : ℕ) → column values 0 ≡ Blob jid → IsIdOf jid model id
     → (r : Result Row Error) → IfOk r (IsRowIn 1 2 kinds values id) → IfOk r (IsModelRow model kinds values)
 model_row model kinds values jid id stored spelled (Ok row) rest =
@@ -45,7 +46,7 @@ model_row model kinds values jid id stored spelled (Ok row) rest =
     record { jid = jid; id_stored = stored; id_spelled = subst (IsIdOf jid model) same spelled; rest = subst (λ (n : ℕ). IsRowIn 1 2 kinds values n row) same rest }
 model_row model kinds values jid id stored spelled (Err e) rest = tt
 
--- all rows that were shown, where the query was answered
+-- All rows that were shown, if the query was answered.
 pub are_shown : {S V : Type 0} (items : V → List Values) (g : Ghosts S) (question : SqlStatement) (Is : Values → Row → Type 0) (old new : Held S) (answer : Result V Error) (r : Result (List Row) Error)
     → IfOk answer (λ v. Shown question.text question.params (state g old) (state g new) (items v)) → IfOk answer (λ v. IfOk r (Each Is (items v))) → IfErr answer (λ e. r ≡ Err e)
     → IfOk r (AreShown g question Is old new)
@@ -53,14 +54,14 @@ are_shown items g question Is old new (Ok v) (Ok rows) shown each none = record 
 are_shown items g question Is old new (Ok v) (Err e) shown each none = tt
 are_shown items g question Is old new (Err e) r shown each none = subst (λ (x : Result (List Row) Error). IfOk x (AreShown g question Is old new)) (sym none) tt
 
--- the number that was asked for
+-- The number that was queried.
 pub is_asked : {S : Type 0} (g : Ghosts S) (old new : Held S) (answer : Result Values Error) (r : Result ℕ Error)
     → QueriesRow reading [] (state g old) (state g new) answer → IsFrom answer r → IfOk r (IsNumberAsked g old new)
 is_asked g old new (Ok row) (Ok n) asked from = record { row = row; asked = asked; has = from }
 is_asked g old new (Ok row) (Err e) asked from = tt
 is_asked g old new (Err e) r asked from = subst (λ (x : Result ℕ Error). IfOk x (IsNumberAsked g old new)) (sym from) tt
 
--- rows from a place on, and the one there
+-- All rows from a place on are the row there and those after it.
 pub all_from : {X : Type 0} (P : X → Type 0) (xs : List X) (at : ℕ) (x : X) → at < length xs → x ≡ get_or xs at x → P x → AllByRecursion P (drop (at + 1) xs) → AllByRecursion P (drop at xs)
 all_from P xs at x within item is more =
     let next : suc at ≡ at + 1 = omega arith in

@@ -1,4 +1,4 @@
--- A store that was made before is opened, with its connection at each of the questions.
+-- A store that was made before is opened, with its connection at each of the queries.
 use Rattle.std.proofs.Common.{◌≡◌, true, false, subst, List, length, Option, Some, None, Ok, IsTrue, Bool, ℕ}
 use Rattle.sqlite_trees.specs.declared.store.Store.{Ghosts}
 use Rattle.sqlite.specs.Held.{Held, state}

@@ -46,7 +46,7 @@ shape_at (x ∷ kinds) (n ∷ nested) zero ks known = let same : x ≡ ks = cc i
 shape_at (x ∷ kinds) [] (suc model) ks known = shape_at kinds [] model ks known
 shape_at (x ∷ kinds) (n ∷ nested) (suc model) ks known = shape_at kinds nested model ks known
 
--- an id is wide where it isn't narrow
+-- A narrow id isn't wide.
 narrow_alone : (id : ℕ) → is_narrow id ≡ true → is_wide id ≡ false
 narrow_alone id narrow =
     let low : id / 2 ^ 52 ≡ 0 = grind (arith, nat_tests, narrow) in
@@ -118,7 +118,7 @@ reads_on_is shapes number model id guards v next_model row before end_model end_
 -- ---- the loop
 
 module _ (shapes : List ModelShape) (number : ℕ) (found : List Values) where
-  -- the rows before a place, with what is kept of the alternatives of their last record
+  -- The rows before a place, with what is kept of the alternatives of their last record.
   pub record GatheredWith (at model id : ℕ) (guards : List (List (ℕ × Bool))) (in_order : Bool) : Type 0 where
     pub all : List (List (ℕ × Bool))
     pub gathered : Gathered shapes number found at model id all
@@ -147,7 +147,7 @@ all_ends : {X : Type 0} (P : X → Type 0) (xs : List X) (x : X) → AllByRecurs
 all_ends P [] x all is = (is, tt)
 all_ends P (y ∷ ys) x all is = (all.0, all_ends P ys x all.1 is)
 
--- one row more is at hand, and not read yet
+-- One more row is shown, and it isn't read yet.
 longer : (shapes : List ModelShape) (number : ℕ) (found : List Values) (v : Values) (model id : ℕ) (guards : List (List (ℕ × Bool))) → Gathered shapes number found (length found) model id guards
     → Gathered shapes number (found ++ v ∷ []) (length found) model id guards
 longer shapes number found v model id guards so =
@@ -169,7 +169,8 @@ longer shapes number found v model id guards so =
     }
 
 module _ (shapes : List ModelShape) (number : ℕ) where
-  -- the rows that were shown, with what is kept of the alternatives of the last record, and their rowids
+  -- The rows that were shown, with what is kept of the alternatives of the last record, and their
+  -- rowids.
   pub record LinesTo (found : List Values) (model id : ℕ) (guards : List (List (ℕ × Bool))) (in_order : Bool) (rowids : List ℤ) : Type 0 where
     pub gathered : GatheredWith shapes number found (length found) model id guards in_order
     pub shown : map (λ v. column v 5) found ≡ map Int rowids
@@ -197,7 +198,7 @@ module _ (shapes : List ModelShape) (number : ℕ) where
   pub lines_end : (found : List Values) (model id : ℕ) (guards : List (List (ℕ × Bool))) (in_order : Bool) (rowids : List ℤ) → LinesTo found model id guards in_order rowids → AreLinesRead shapes number found rowids
   lines_end found model id guards in_order rowids so = record { shown = so.shown; are = read_end shapes number found (length found) model id guards in_order (omega arith) so.gathered }
 
--- all rows, where no rowid comes twice
+-- All rows, if no rowid occurs twice.
 pub lines_apart : {S V E : Type 0} (items : V → List ℤ) (g : Ghosts S) (shapes : List ModelShape) (number : ℕ) (old new : Held S) (read : Result V E) (r : Result (Unit {0}) E)
     → IfOk read (λ v. (found : List Values) × Shown all_reading [] (state g old) (state g new) found × AreLinesRead shapes number found (items v)) → OnOk r (IfOk read (λ v. NoneComesTwice (items v))) → OnErr read (IsErr r) → OnOk r (ShowsLines g shapes number old new)
 lines_apart items g shapes number old new (Ok v) (Ok done) it apart failed = record {

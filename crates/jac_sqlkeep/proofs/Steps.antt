@@ -34,7 +34,7 @@ survives_same a P = record {
 pub keeps_same : (a : State) → KeepsCommit a a
 keeps_same a = record { was_open = λ h. h; committed = λ _. refl }
 
--- the next alternative, and those after it
+-- The next alternative, and those after it.
 pub next_alternative : (rows : List Kept) (alt : ℕ) (row : Kept) → alt < length rows → row ≡ get_or rows alt row
     → additions alt (drop alt rows) ≡ addition alt row ∷ additions (alt + 1) (drop (alt + 1) rows)
 next_alternative rows alt row within is =
@@ -79,7 +79,7 @@ module _ {S : Type 0} (g : Ghosts S) where
     survives = survives;
   }
 
-  -- nothing ran, and that is told
+  -- Nothing ran, and the result is an error.
   pub none_ran : {T : Type 0} (xs : List SqlStatement) (a : Held S) (e : Error) → Inside {T = T} g xs a a (Err e)
   none_ran xs a e = record { ran = λ _ _. tt; kept = λ _. keeps_same (state g a); survives = survives_same (state g a) _ }
 
@@ -105,7 +105,8 @@ module _ {S : Type 0} (g : Ghosts S) where
     survives = survives_on a b c one.survives two.survives;
   }
 
-  -- in the middle of a list of statements: what those that are left lead to from here, all lead to
+  -- In the middle of a list of statements: what the statements that are left lead to from here, all
+  -- of them lead to from the start.
   pub record Halfway (all left : List SqlStatement) (start now : Held S) : Type 0 where
     pub goes : HasCleanDisk (state g now) → IsTrue (state g start).in_transaction → IsTrue (state g now).in_transaction × ((end : Held S) → Ran g left now end → Ran g all start end)
     pub kept : HasCleanDisk (state g now) → KeepsCommit (state g start) (state g now)
@@ -114,7 +115,7 @@ module _ {S : Type 0} (g : Ghosts S) where
   pub halfway_start : (xs : List SqlStatement) (a : Held S) → Halfway xs xs a a
   halfway_start xs a = record { goes = λ _ within. (within, λ _ ran. ran); kept = λ _. keeps_same (state g a); survives = survives_same (state g a) _ }
 
-  -- after some that ran
+  -- After some statements ran.
   pub halfway_behind : {T : Type 0} (xs left : List SqlStatement) (a b : Held S) (t : T) → Inside g xs a b (Ok t) → Halfway (xs ++ left) left a b
   halfway_behind xs left a b t one = record {
     goes = λ clean within. let ran = one.ran clean within in (stays xs a b ran within, λ end more. ran_on xs left a b end ran more);
@@ -142,7 +143,7 @@ module _ {S : Type 0} (g : Ghosts S) where
     survives = survives_on a b c half.survives one.survives;
   }
 
-  -- one alternative of a record after another
+  -- One alternative of a record after another.
   pub replaced_start : {T : Type 0} (a : Alteration) (start now : Held S) (t : T) → Inside g (removal a.id ∷ []) start now (Ok t) → Halfway (replacement a) (additions 0 a.rows) start now
   replaced_start a start now t one = halfway_behind (removal a.id ∷ []) (additions 0 a.rows) start now t one
 
@@ -158,7 +159,7 @@ module _ {S : Type 0} (g : Ghosts S) where
   replaced_end all rows alt start now t behind half =
       halfway_end all start now t (subst (λ (left : List Kept). Halfway all (additions alt left) start now) (drop_all alt rows behind) half)
 
-  -- one record after another
+  -- One record after another.
   pub changed_next : {T : Type 0} (all : List SqlStatement) (a : Alteration) (left more : List Alteration) (start now next : Held S) (t : T) → left ≡ a ∷ more
       → Halfway all (replacements left) start now → Inside g (replacement a) now next (Ok t) → Halfway all (replacements more) start next
   changed_next all a left more start now next t is half one =
@@ -167,7 +168,7 @@ module _ {S : Type 0} (g : Ghosts S) where
   pub changed_end : {T : Type 0} (all : List SqlStatement) (left : List Alteration) (start now : Held S) (t : T) → left ≡ [] → Halfway all (replacements left) start now → Inside g all start now (Ok t)
   changed_end all left start now t is half = halfway_end all start now t (subst (λ (left : List Alteration). Halfway all (replacements left) start now) is half)
 
-  -- what a transaction of them leaves
+  -- What a transaction of these statements leaves.
   pub left_by : {T : Type 0} (xs : List SqlStatement) (old last : Held S) (t : T) → Inside g xs (record old { in_transaction = true }) last (Ok t) → HasCleanDisk (state g last) → Leaves g xs old (state g last).now
   left_by xs old last t one clean = record { last = last; ran = one.ran clean refl; left = refl }
 
@@ -222,7 +223,7 @@ module _ {S : Type 0} (g : Ghosts S) where
         crash = crash_after xs old last new t within end;
       }
 
-  -- a transaction of them that is ended, and one that is given up
+  -- A transaction of these statements that is ended, and one that is rolled back.
   pub transacts_end : {T U : Type 0} (xs : List SqlStatement) (old begun last new : Held S) (t : T) (r : Result U Error) → begun ≡ record old { in_transaction = true }
       → Inside g xs begun last (Ok t) → (IsTrue (state g old).is_open → (state g old).now ≡ (state g old).committed)
       → (HasCleanDisk (state g new) → OnOk r ((state g new).committed ≡ (state g last).now))
@@ -270,7 +271,7 @@ module _ {S : Type 0} (g : Ghosts S) where
       → (HasCleanDisk (state g new) → IsRolledBack (state g last) (state g new)) → Survives (state g last) (state g new) (λ _. ⊥) → HasCleanDisk (state g new) → EndsCommitted (state g old) (state g new)
   ends_none xs old begun last new e begins inside undone end clean = ends_by old begun last new begins (inside.kept (omega (arith, end.clean, clean))) (undone clean)
 
--- a row of the schema was asked for
+-- A row with the schema was queried.
 pub found_by_row : {S : Type 0} (g : Ghosts S) (schema : List ℕ) (row : Row) (old new : Held S) (r : Result (Option (List ℕ)) Error)
     → QueriesRow reading [] (state g old) (state g new) (Ok row) → Tells schema row r → FindsSchema g schema old new r
 found_by_row g schema row old new (Ok found) asked tells = record { row = row; asked = asked; tells = tells }

@@ -1,4 +1,4 @@
--- what contracts see of a keeper's database
+-- What contracts see of a keeper's database.
 use Rattle.std.specs.Prelude.{◌≡◌, ◌≤◌, ◌⊎◌, ℕ, Bool, ◌&&◌, List, length, Option, Some, None, IsTrue, Result, Ok, Err, IfOk, OnOk, OnErr}
 use Rattle.sqlite_trees.specs.declared.store.Store.{Ghosts}
 use Rattle.sqlite_trees.specs.View.{doubt}
@@ -20,9 +20,9 @@ use Rattle.jac_sql_spec.specs.Tables.{no_tables}
 use Rattle.jac_sql_spec.specs.Telling.{empty_state, IsAllCommitted}
 use Rattle.jac_sql_spec.specs.Told.{told, schema_in}
 
--- the kinds of its models' fields, whether its connection is open, whether its disk has returned
--- what was written and how often that failed, the schema text that it has, the rows of its two
--- tables, as they are seen and as they are committed, whether it tells its state, and its state
+-- The kinds of its models' fields. Whether its connection is open, whether its disk has returned
+-- what was written, and how often that failed. Its schema text. The rows of its two tables, as they
+-- are seen and as they are committed. Whether its state is known, and its state.
 pub record Based : Type 0 where
   pub kinds : List (List Kind)
   pub is_open : Bool
@@ -36,7 +36,7 @@ pub record Based : Type 0 where
   pub tells : Bool
   pub state : State
 
--- one whose rows are known tells while its connection is open
+-- If the rows of a database are known, its state is known while its connection is open.
 abbrev pub based_keeper : {S : Type 0} → Ghosts S → List (List Kind) → Bool → Held S → Based
 based_keeper g kinds known h = record {
   kinds = kinds;
@@ -52,22 +52,22 @@ based_keeper g kinds known h = record {
   state = told (length kinds) (state g h).now;
 }
 
--- connections over such a store are never shut, as those in memory
+-- Connections over such a store are never shut. Connections in memory are of this kind.
 abbrev pub NeverShut : {S : Type 0} → Ghosts S → Type 0
 NeverShut {S} g = (s : S) → IsTrue (g.view s).is_open
 
--- the rows of both tables are those that stood there
+-- The rows of both tables are those of `db`.
 pub record HasTables (db : Tables) (b : Based) : Type 0 where
   pub meta : b.meta ≡ db.trees 0
   pub rec : b.rec ≡ db.trees 1
 
--- the rows of both tables are committed as they are seen
+-- The rows of both tables are committed as they are seen.
 pub record AreCommitted (b : Based) : Type 0 where
   pub meta : b.committed_meta ≡ b.meta
   pub rec : b.committed_rec ≡ b.rec
 
--- so they are, and they are committed, as long as the connection is open, which only a fault of the
--- disk shuts
+-- As long as the connection is open, the rows of both tables are those that were given, and they
+-- are committed. Only a fault of the disk shuts the connection.
 pub record Stood {S : Type 0} (g : Ghosts S) (given : Held S) (b : Based) : Type 0 where
   pub was_open : IsTrue b.is_open → IsTrue (state g given).is_open
   pub kept : IsTrue b.is_open → HasTables (state g given).now b
@@ -76,21 +76,21 @@ pub record Stood {S : Type 0} (g : Ghosts S) (given : Held S) (b : Based) : Type
       → IsTrue b.is_open ⊎ Rose (state g given).faults b.faults
   pub sure : NeverShut g → IsTrue b.is_open
 
--- the rows of both tables are well formed: they stand for the state that is told, with this schema
--- text; and they are committed
+-- The rows of both tables are well formed: they represent the state, with this schema text. They
+-- are also committed.
 pub record IsStanding (schema : List ℕ) (b : Based) : Type 0 where
   pub database : Tables
   pub has : HasTables database b
   pub stands : Stands schema database b.state
   pub settled : AreCommitted b
 
--- so they are, with the schema text that it has, as long as it tells
+-- If the state is known, the rows are well formed, with the database's schema text, and committed.
 abbrev pub TellsStanding : Based → Type 0
 TellsStanding b = IsTrue b.tells → IsStanding b.schema b
 
--- between two calls: one that told tells while its connection is open, which is never opened again,
--- no fault is forgotten, only a fault of the disk shuts the connection, and its rows stay well
--- formed and committed
+-- From one call to a later one: if the state was known, it is known while the connection is open. A
+-- shut connection is never opened again. No fault is forgotten. Only a fault of the disk shuts the
+-- connection. The rows stay well formed and committed.
 pub record DatabaseGoesOn {S : Type 0} (g : Ghosts S) (old new : Based) : Type 0 where
   pub tells : IsTrue old.tells → IsTrue new.is_open → IsTrue new.tells
   pub opens : IsTrue new.is_open → IsTrue old.is_open
@@ -101,10 +101,10 @@ pub record DatabaseGoesOn {S : Type 0} (g : Ghosts S) (old new : Based) : Type 0
   pub sure : NeverShut g → IsTrue old.is_open → IsTrue new.is_open
   pub standing : TellsStanding old → TellsStanding new
 
--- A store that may be called from now on: it has the schema, and tells its state, which fits the
--- schema, while its connection is open. Its rows are well formed and committed. Where there was no
--- table at all it is made, empty and with the number 1; else it is what stood there, by its rows
--- and by what they tell. What stood there was read from a disk that had returned what was written.
+-- A database that may be called. While its connection is open, it has the schema, and its state is
+-- known and fits the schema. Its rows are well formed and committed. If there was no table, it was
+-- made empty and with the number 1. Otherwise its rows and its state are those that were stored,
+-- read from a disk that had returned what was written.
 pub record Begins {S : Type 0} (g : Ghosts S) (schema : List ℕ) (kinds : List (List Kind))
     (nested : List Bool) (given : Held S) (b : Based) : Type 0 where
   pub tells : b.tells ≡ b.is_open
@@ -125,8 +125,8 @@ pub record Begins {S : Type 0} (g : Ghosts S) (schema : List ℕ) (kinds : List 
       → IsTrue b.is_open ⊎ Rose (state g given).faults b.faults
   pub sure : NeverShut g → IsTrue b.is_open
 
--- what opening a database gives: a store that may be called, or one that is left as it stood and
--- isn't told, where it has another schema or can't be read
+-- What opening a database gives: a database that may be called, or one that is left as it was and
+-- whose state isn't known, because it has another schema or can't be read.
 abbrev pub OpensBased : {S E : Type 0} → Ghosts S → List ℕ → List (List Kind) → List Bool → Held S
     → Based → Result (Option (List ℕ)) E → Type 0
 OpensBased g schema kinds nested given b (Ok None) = Begins g schema kinds nested given b
@@ -134,7 +134,7 @@ OpensBased g schema kinds nested given b (Ok (Some stored)) =
     (¬ (stored ≡ schema)) × (IsTrue b.is_open → b.schema ≡ stored) × Stood g given b
 OpensBased g schema kinds nested given b (Err e) = Stood g given b
 
--- all of it was read, and is told
+-- The whole database was read, and its state is known.
 pub record IsWhole {S : Type 0} (g : Ghosts S) (schema : List ℕ) (kinds : List (List Kind))
     (nested : List Bool) (h : Held S) : Type 0 where
   pub kept : IsAllCommitted (length kinds) (state g h)
@@ -142,15 +142,15 @@ pub record IsWhole {S : Type 0} (g : Ghosts S) (schema : List ℕ) (kinds : List
       → IsFit (shapes_by kinds nested) (told (length kinds) (state g h).now)
   pub stored : IsTrue (state g h).is_open → schema_in (state g h).now ≡ schema
 
--- what was read of a store that stood there: it has this schema, its state is told and fits, or it
--- has another one
+-- What was read from an existing database: either it has this schema, and its state is known and
+-- fits, or it has another schema.
 abbrev pub ReadsWhole : {S : Type 0} → Ghosts S → List ℕ → List (List Kind) → List Bool → Held S
     → Option (List ℕ) → Type 0
 ReadsWhole g schema kinds nested h None = IsWhole g schema kinds nested h
 ReadsWhole g schema kinds nested h (Some stored) =
     (¬ (stored ≡ schema)) × (IsTrue (state g h).is_open → schema_in (state g h).now ≡ stored)
 
--- what was read is what the state has, and nothing was changed
+-- The result is what the state has, and nothing was changed.
 pub record ReadsBased {T : Type 0} (Is : State → T → Type 0) (old new : Based)
     (result : Result T Error) : Type 0 where
   pub told_before : IsTrue new.tells → IsTrue old.tells
@@ -158,7 +158,7 @@ pub record ReadsBased {T : Type 0} (Is : State → T → Type 0) (old new : Base
   pub good : IsTrue new.tells → IsSound new.state
   pub exact : IsTrue new.tells → IfOk result (Is old.state)
 
--- the change was applied where it was told that it was, and else nothing was changed
+-- If the call succeeded, the change was applied. Otherwise nothing was changed.
 pub record AppliesBased (change : Change) (old new : Based) (result : Result (Unit {0}) Error) :
     Type 0 where
   pub told_before : IsTrue new.tells → IsTrue old.tells
@@ -166,8 +166,8 @@ pub record AppliesBased (change : Change) (old new : Based) (result : Result (Un
   pub exact : IsTrue new.tells → OnOk result (new.state ≡ changed_state change old.state)
   pub refused : IsTrue new.tells → OnErr result (new.state ≡ old.state)
 
--- the change was applied and the store brought to so many models with this schema where it was told
--- that it was, and else nothing was changed
+-- If the call succeeded, the change was applied, and the database has so many models and this
+-- schema. Otherwise nothing was changed.
 pub record ReshapesBased (change : Change) (schema : List ℕ) (models : ℕ) (old new : Based)
     (result : Result (Unit {0}) Error) : Type 0 where
   pub told_before : IsTrue new.tells → IsTrue old.tells

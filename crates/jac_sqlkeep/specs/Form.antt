@@ -1,4 +1,4 @@
--- the parts of a keeper's tables
+-- The parts of a keeper's tables.
 use Rattle.std.specs.Prelude.{◌≡◌, ℕ, Bool, true, false, List, [], ◌∷◌, codes}
 use Rattle.sqlite_value.specs.declared.value.Value.TheVariants.{Null}
 use Rattle.sqlite_value.specs.declared.keys.Collation.TheVariants.{Binary}
@@ -7,7 +7,7 @@ use Rattle.sqlite_schema.specs.declared.schema.Kind.{Kind}
 use Rattle.sqlite_schema.specs.declared.schema.Kind.TheVariants.{Integer, Blob}
 use Rattle.sqlite_schema.specs.declared.schema.Table.{Table}
 
--- a column that takes values of its type alone
+-- A column that takes values of its type alone.
 abbrev pub column_of : List ℕ → Kind → Bool → Column
 column_of name kind not_null = record {
   name = name;
@@ -24,7 +24,7 @@ rec_columns =
     (codes "alt") Integer true ∷ column_of (codes "jvars") Blob true ∷ column_of (codes "body")
     Blob true ∷ []
 
--- a table of this name and tree, without anything that a keeper doesn't ask for
+-- A table with this name and tree, without anything that a keeper doesn't use.
 pub record IsPlainTable (t : Table) (name : List ℕ) (tree : ℕ) : Type 0 where
   pub name_is : t.name ≡ name
   pub tree_is : t.tree ≡ tree

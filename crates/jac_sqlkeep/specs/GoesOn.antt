@@ -1,4 +1,4 @@
--- that a keeper over SQLite goes on, over any number of calls
+-- What any number of calls of a keeper over SQLite preserve.
 use Rattle.std.proofs.Common.{◌≤◌, ◌⊎◌, inl, inr, Option, Some, None, arith}
 use Rattle.sqlite_trees.specs.declared.store.Store.{Ghosts}
 use Rattle.jac_io.specs.Faults.{Rose}
@@ -47,7 +47,7 @@ module _ {S : Type 0} (g : Ghosts S) where
   keeper_joined (Some a) (Some b) None one two = two
   keeper_joined (Some a) (Some b) (Some c) one two = goes_joined a b c one two
 
--- what a keeper over SQLite keeps over each of its calls
+-- What each call of a keeper over SQLite preserves.
 abbrev pub keeper_goes_on : {S : Type 0} → Ghosts S → Preorder Kept
 keeper_goes_on g = record {
   holds = λ old new. KeeperGoesOn g old.database new.database;

@@ -1,4 +1,4 @@
--- what contracts see of a keeper over SQLite
+-- What contracts see of a keeper over SQLite.
 use Rattle.std.specs.Prelude.{◌≡◌, ◌+◌, ◌⊎◌, ⊤, ℕ, Bool, false, List, [], Option, Some, None, IfSome, Result, Ok, Err, IsTrue, IsSomeAnd}
 use Rattle.sqlite_trees.specs.declared.store.Store.{Ghosts}
 use Rattle.sqlite.specs.Held.{Held}
@@ -11,8 +11,8 @@ use Rattle.jac_keep.specs.declared.vault.AttachFault.{AttachFault}
 use Rattle.jac_keep.specs.declared.vault.AttachFault.TheVariants.{Failed, Memory, Other}
 use Rattle.jac_sqlkeep.specs.Based.{Based, DatabaseGoesOn, Begins, Stood, TellsStanding}
 
--- its store, how often it failed, and how often that was an opening, how many connections its
--- opener gave, its database, once it has one, and the one that was refused
+-- Its store. How often it failed, and how often its opener failed. How many connections the opener
+-- gave. Its database, if it is attached, and the database that was refused, if there is one.
 pub record Kept : Type 0 where
   pub store : Store
   pub faults : ℕ
@@ -21,7 +21,7 @@ pub record Kept : Type 0 where
   pub database : Option Based
   pub refused : Option Based
 
--- it tells where its database does
+-- A keeper's state is known if it has a database whose state is known.
 abbrev pub tells_of : Option Based → Bool
 tells_of None = false
 tells_of (Some b) = b.tells
@@ -38,7 +38,8 @@ seen_kept k = record {
   store = k.store;
 }
 
--- one that nobody tried to attach, over an opener that failed so often and gave so many connections
+-- A keeper on which `attach` wasn't called, over an opener that failed so often and gave so many
+-- connections.
 abbrev pub untouched_keeper : ℕ → ℕ → Kept
 untouched_keeper unopened given = record {
   store = record {
@@ -54,7 +55,8 @@ untouched_keeper unopened given = record {
   refused = None;
 }
 
--- a store of another schema: it is told, and known from now on; nothing else changed
+-- A store with another schema is refused. Unless memory runs out, the result gives that schema, and
+-- the keeper knows it afterwards. Nothing else changes.
 abbrev pub IsRefusedAs : Kept → Kept → Based → List ℕ → Result (Unit {0}) AttachFault → Type 0
 IsRefusedAs old new database stored (Ok done) = ⊥
 IsRefusedAs old new database stored (Err Failed) = ⊥
@@ -65,19 +67,19 @@ IsRefusedAs old new database stored (Err (Other told)) =
       refused = Some database;
     })
 
--- a database that has this schema text, as long as its connection is open
+-- The database has this schema text as long as its connection is open.
 abbrev pub HasSchema : List ℕ → Based → Type 0
 HasSchema schema b = IsTrue b.is_open → b.schema ≡ schema
 
--- one that tells has this schema text
+-- If its state is known, the database has this schema text.
 abbrev pub TellsSchema : List ℕ → Based → Type 0
 TellsSchema schema b = IsTrue b.tells → b.schema ≡ schema
 
--- as long as its database tells, the rows of that are well formed and committed
+-- As long as the state of its database is known, the rows of that are well formed and committed.
 abbrev pub HasStandingRows : Kept → Type 0
 HasStandingRows k = IfSome k.database TellsStanding
 
--- a store that may be called, over what the opener gave
+-- A database that may be called, over a connection that the opener gave.
 pub record BeginsGiven {S : Type 0} (g : Ghosts S) (Gives : Held S → Type 0) (schema : List ℕ)
     (b : Based) : Type 0 where
   pub given : Held S
@@ -87,26 +89,26 @@ pub record BeginsGiven {S : Type 0} (g : Ghosts S) (Gives : Held S → Type 0) (
   pub is_schema : IsSchema schema (shapes_by kinds nested)
   pub begins : Begins g schema kinds nested given b
 
--- what the opener gave is left as it stood
+-- A connection that the opener gave is left as it was.
 pub record StoodAs {S : Type 0} (g : Ghosts S) (Gives : Held S → Type 0) (b : Based) : Type 0 where
   pub given : Held S
   pub gave : Gives given
   pub stood : Stood g given b
 
--- the opener gave no connection
+-- The opener gave no connection.
 abbrev pub GaveNone : Kept → Kept → Type 0
 GaveNone old new = new.given ≡ old.given
 
--- it gave one, and no other
+-- The opener gave exactly one connection.
 abbrev pub GaveOne : Kept → Kept → Type 0
 GaveOne old new = new.given ≡ old.given + 1
 
--- it gave one, which is refused and left as it stood
+-- The opener gave exactly one connection, which was refused and left as it was.
 abbrev pub IsOneLeft : {S : Type 0} → Ghosts S → (Held S → Type 0) → Kept → Kept → Type 0
 IsOneLeft g Gives old new = GaveOne old new × IsSomeAnd new.refused (StoodAs g Gives)
 
--- what attaching leaves: the one connection that the opener gave is attached, or is refused and
--- left as it stood, or the opener gave none
+-- What attaching leaves. Either the opener gave exactly one connection, which is attached, or
+-- refused and left as it was, or it gave none.
 abbrev pub IsLeftAs : {S : Type 0} → Ghosts S → (Held S → Type 0) → Kept → Kept
     → Result (Unit {0}) AttachFault → Type 0
 IsLeftAs g Gives old new (Ok done) = GaveOne old new
@@ -116,8 +118,9 @@ IsLeftAs g Gives old new (Err Memory) =
     (GaveNone old new × (new.refused ≡ old.refused)) ⊎ IsOneLeft g Gives old new
 IsLeftAs g Gives old new (Err (Other stored)) = IsOneLeft g Gives old new
 
--- what attaching that ended so lets know: the schema that is stored where it is another one, and
--- else none; want of memory isn't counted
+-- What the keeper learns by attaching with this result. If another schema is stored, the keeper
+-- knows that one. After another error it knows what it knew before. Running out of memory isn't
+-- counted.
 abbrev pub LearnsSchema : Kept → Kept → Result (Unit {0}) AttachFault → Type 0
 LearnsSchema old new (Ok done) = ⊤
 LearnsSchema old new (Err Failed) = new.store.schema ≡ old.store.schema
@@ -125,7 +128,7 @@ LearnsSchema old new (Err Memory) = (new.store.schema ≡ old.store.schema)
     × (new.faults ≡ old.faults)
 LearnsSchema old new (Err (Other stored)) = new.store.schema ≡ Some stored
 
--- the database of a keeper that is attached, before a call and after it
+-- The database of an attached keeper, before a call and after it.
 abbrev pub KeeperGoesOn : {S : Type 0} → Ghosts S → Option Based → Option Based → Type 0
 KeeperGoesOn g None new = ⊤
 KeeperGoesOn g (Some a) None = ⊥

@@ -8,8 +8,8 @@ use jac_value::Memory;
 use jac_world::{Guard, Label};
 use std::alloc::Global;
 
-/// The guards of the alternatives of a record that were read. As long as each new one has a place
-/// in their order, it is compared with its neighbours alone.
+/// The guards of a record's alternatives that were read. As long as each new guard has a place in
+/// their order, it is compared only with its neighbours.
 #[derive(Drop)]
 pub struct Alternatives {
     guards: Vec<Guard>,
@@ -32,7 +32,7 @@ impl Alternatives {
         self.guards.len()
     }
 
-    /// With one more guard, where it excludes each of them.
+    /// With one more guard, if it excludes each of the others.
     pub fn with(self, guard: Guard) -> Result<Option<Alternatives>, Memory>
         ensures { IfOk result (λ r. IfSome r (λ next. (all : List (List (ℕ × Bool)))
             → AreTaken all self.guards.items self.in_order
@@ -78,7 +78,7 @@ fn pushed(guards: Vec<Guard>, guard: Guard) -> Result<Alternatives, Memory>
     })
 }
 
-// Where the guard belongs, if the guards are in order and it has a place there.
+// The guard's place, if the guards are in order and it has a place there.
 fn place_of(guards: &[Guard], guard: &Guard) -> usize
     ensures { result ≤ length guards.now }
 {
@@ -125,7 +125,8 @@ fn starts_behind(guards: &[Guard], guard: &Guard) -> bool
     }
 }
 
-// Whether both are the same up to a label that the first one wants shown and the second one hidden.
+// Whether both guards are equal up to a label that the first requires to be shown and the second to
+// be hidden.
 #[tactic(auto, using(crate::proofs::Ordered::precedes_on, crate::proofs::Ordered::precedes_here))]
 fn precedes(first: &[(Label, bool)], second: &[(Label, bool)]) -> bool
     ensures { result ≡ true → Precedes first.now second.now }
@@ -158,7 +159,7 @@ fn are_apart(guards: &[Guard], guard: &Guard) -> bool
     true
 }
 
-// Whether one label of both has two signs.
+// Whether some label has opposite signs in the two guards.
 #[tactic(auto, using(crate::proofs::Ordered::apart_left, crate::proofs::Ordered::apart_right, crate::proofs::Ordered::apart_here))]
 fn is_apart(first: &[(Label, bool)], second: &[(Label, bool)]) -> bool
     ensures { result ≡ true → IsApart first.now second.now }

@@ -27,8 +27,8 @@ use sqlite::{Alter, Connection, Error};
 use std::alloc::Global;
 use std::marker::Model;
 
-/// A database with the tables of a keeper, and what its models are. It tells its state where its
-/// rows are known, as long as its connection is open.
+/// A database with the tables of a keeper, and the shape of its models. If its rows are known, its
+/// state is known as long as its connection is open.
 #[derive(Drop)]
 pub struct Database<S: Alter> {
     conn: Connection<S>,
@@ -50,9 +50,9 @@ impl<S: Alter> Model for Database<S> {
 }
 
 impl<S: Alter> Database<S> {
-    /// Opens what is stored for this schema, or makes it where the database has nothing. Another
-    /// schema that is stored is told; its store, and what is no store, is left as it is, and
-    /// nothing is known of it.
+    /// Opens what is stored with this schema, or makes it if the database is empty. If another
+    /// schema is stored, it is returned. A database with another schema, or that isn't a keeper's,
+    /// is left as it is, and nothing is known of it.
     #[tactic(auto, using(crate::proofs::Based::stood_here))]
     pub fn open(
         alloc: Global,
@@ -75,7 +75,7 @@ impl<S: Alter> Database<S> {
         Database::reopen(alloc, conn, shape, schema)
     }
 
-    // One of which nothing is known.
+    // A database of which nothing is known.
     fn untold(conn: Connection<S>, shape: Shape) -> Database<S>
         requires outside { conn.in_transaction ≡ false }
         ensures { result ≡ based_keeper S.Store shape.kinds false conn }
@@ -87,7 +87,7 @@ impl<S: Alter> Database<S> {
         }
     }
 
-    // A new store.
+    // Makes a new store.
     fn found(
         mut conn: Connection<S>,
         shape: Shape,
@@ -110,7 +110,7 @@ impl<S: Alter> Database<S> {
         }
     }
 
-    // A store that was made before.
+    // Opens a store that was made before.
     fn reopen(
         alloc: Global,
         mut conn: Connection<S>,
@@ -139,7 +139,7 @@ impl<S: Alter> Database<S> {
     }
 }
 
-// Reads and tests all of a store that was made before, or tells of another schema.
+// Reads and tests all of a store that was made before. If it has another schema, that is returned.
 fn read_whole<S: Alter>(
     alloc: Global,
     conn: &mut Connection<S>,
@@ -178,14 +178,14 @@ impl<S: Alter> Database<S> {
         conn
     }
 
-    /// It tells nothing from now on.
+    /// Makes the state unknown from then on.
     pub fn doubt(&mut self)
         ensures { self.new ≡ record self.old { tells = false } }
     {
         self.known = false;
     }
 
-    /// A law: as long as it tells, its rows are well formed and committed.
+    /// A law: as long as its state is known, its rows are well formed and committed.
     pub fn rows_stand(&self)
         ensures { TellsStanding self.now }
     {
@@ -250,7 +250,7 @@ impl<S: Alter> Database<S> {
         write_change(alloc, &mut self.conn, models, change, None)
     }
 
-    /// The change, and from then on a state of this schema.
+    /// Applies the change and brings the database to this schema.
     pub fn reshape(
         &mut self,
         alloc: Global,
@@ -275,7 +275,7 @@ impl<S: Alter> Database<S> {
     }
 }
 
-// The records among the rows that were read.
+// The records with this value among the rows that were read.
 fn found_among(
     alloc: Global,
     rows: Result<Rows, Error>,

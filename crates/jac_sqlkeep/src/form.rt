@@ -167,7 +167,7 @@ fn is_column(column: &Column, name: &[u8], kind: Kind, not_null: bool) -> bool
     column.not_null == not_null
 }
 
-// A table of this name and tree, without anything that a keeper doesn't ask for.
+// Whether it is a table with this name and tree, without anything that a keeper doesn't use.
 fn is_plain_table(table: &Table, name: &[u8], tree: u32) -> bool
     ensures { result ≡ true → IsPlainTable table.now name.now tree }
 {

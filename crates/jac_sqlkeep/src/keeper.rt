@@ -25,10 +25,11 @@ use sqlite::{Connection, Error};
 use std::alloc::Global;
 use std::marker::Model;
 
-/// A keeper in a database. It tells its state from when it is attached, as long as the connection
-/// is open. It counts each statement that was refused but for want of memory, each store whose
-/// tables or rows aren't those of a state that fits its schema, each stored row that is none of its
-/// model, each change of a record that is none of its models, and each opening that failed.
+/// A keeper in a database. Its state is known after it is attached, as long as the connection is
+/// open. It counts each statement that was refused, unless memory ran out. It also counts each
+/// store whose tables or rows aren't those of a state that fits its schema, each stored row that
+/// isn't a row of its model, each change of a record that belongs to none of its models, and each
+/// opening that failed.
 #[derive(Drop)]
 pub struct SqlKeeper<O: Opener> {
     opener: O,
@@ -56,7 +57,7 @@ impl<O: Opener> Model for SqlKeeper<O> {
 impl<O: Opener> SqlKeeper<O> {
     ghost use Rattle.jac_sqlkeep.specs.Kept.{untouched_keeper};
 
-    /// A keeper that wasn't attached yet.
+    /// A keeper that isn't attached yet.
     pub fn new(opener: O) -> SqlKeeper<O>
         ensures { result ≡ untouched_keeper (O.faults opener) (O.gave opener) }
     {
@@ -77,7 +78,7 @@ impl<O: Opener> SqlKeeper<O> {
         &self.opener
     }
 
-    /// Why what is stored wasn't attached, where it could be opened.
+    /// Why the stored database wasn't attached, if it could be opened.
     pub fn unfit(&self) -> Option<Unfit> {
         self.unfit
     }
@@ -92,7 +93,7 @@ impl<O: Opener> SqlKeeper<O> {
         self.database.is_some()
     }
 
-    /// How often it failed.
+    /// How often the keeper failed.
     pub fn faults(&self) -> u64
         ensures { result ≡ self.now.faults }
     {
@@ -104,7 +105,8 @@ impl<O: Opener> SqlKeeper<O> {
         self.error
     }
 
-    /// A law: as long as its database tells, the rows of that are well formed and committed.
+    /// A law: as long as the state of its database is known, the rows of that are well formed and
+    /// committed.
     pub fn rows_stand(&self)
         ensures { HasStandingRows self.now }
     {
@@ -113,7 +115,7 @@ impl<O: Opener> SqlKeeper<O> {
         }
     }
 
-    /// It tells nothing from now on.
+    /// Makes the state unknown from then on.
     pub fn doubt(&mut self)
         ensures untold { (seen_kept self.new).tells ≡ false }
         ensures same_store { self.new.store ≡ self.old.store }
@@ -124,7 +126,7 @@ impl<O: Opener> SqlKeeper<O> {
         }
     }
 
-    /// The opener, and the connection, if it is attached, or that to a store that was refused.
+    /// The opener, and the connection to the attached or refused store, if there is one.
     pub fn into_parts(self) -> (O, Option<Connection<O::Store>>)
         ensures some { is_some result.1 ≡ (is_some self.database || is_some self.refused) }
     {
@@ -156,8 +158,8 @@ impl<O: Opener> Keeper for SqlKeeper<O> {
 
     ghost seen = { seen_kept };
 
-    /// A store that told tells as long as its connection is open, and only the disk's faults shut
-    /// that.
+    /// A known state stays known as long as the connection is open. Only faults of the disk shut
+    /// the connection.
     ghost goes = { keeper_goes_on O.Store.Store };
 
     fn number(&mut self) -> Result<u64, Stop>
@@ -219,7 +221,7 @@ impl<O: Opener> Keeper for SqlKeeper<O> {
         }
     }
 
-    /// It reads the whole table, and finds the records there.
+    /// Reads the whole table, and finds the records in it.
     fn rows_with(
         &mut self,
         alloc: Global,
@@ -274,7 +276,8 @@ impl<O: Opener> Keeper for SqlKeeper<O> {
 impl<O: Opener> Vault for SqlKeeper<O> {
     ghost use Rattle.jac_sqlkeep.specs.Kept.{seen_kept};
 
-    /// A store that was made before is read and tested whole. What is no store is left as it is.
+    /// Reads and tests all of a store that was made before. A database that isn't a store is left
+    /// as it is.
     #[tactic(auto, using(crate::proofs::Attached::learns_failed, crate::proofs::Attached::left_unopened))]
     fn attach(&mut self, alloc: Global, name: Option<&Txt>, schema: &Txt) -> Result<(), AttachFault>
         requires first { self.old.store.called ≡ false }
@@ -350,7 +353,7 @@ impl<O: Opener> Vault for SqlKeeper<O> {
 }
 
 impl<O: Opener> SqlKeeper<O> {
-    // The database is that of the keeper from now on.
+    // Makes the database that of the keeper.
     fn begin(&mut self, database: Database<O::Store>, name: Option<Txt>, schema: Txt)
         requires { IsTrue self.old.store.called }
         ensures { self.new ≡ record self.old {
@@ -368,7 +371,7 @@ impl<O: Opener> SqlKeeper<O> {
         self.database = Some(database);
     }
 
-    // What is stored has another schema.
+    // Refuses a store with another schema.
     fn refuse(
         &mut self,
         alloc: Global,
@@ -387,7 +390,7 @@ impl<O: Opener> SqlKeeper<O> {
         }
     }
 
-    // What is stored isn't attached.
+    // Refuses a store that can't be attached.
     fn fail(&mut self, database: Database<O::Store>, unfit: Unfit) -> AttachFault
         ensures later { self.old.faults ≤ self.new.faults }
         ensures rose { result ≡ AttachFault.Failed → Rose self.old.faults self.new.faults }
@@ -404,7 +407,7 @@ impl<O: Opener> SqlKeeper<O> {
     }
 }
 
-// What the keeper knows of its store before it is opened.
+// What the keeper knows of its store before opening it.
 #[derive(Drop)]
 struct Known {
     name: Option<Txt>,
@@ -450,7 +453,7 @@ fn fault_of(stop: Stop) -> AttachFault
     }
 }
 
-// An opening's fault, counted here where it was counted there.
+// The fault of an opening. A failure that the opener counted is counted here too.
 fn counted(fault: AttachFault, faults: &mut u64) -> AttachFault
     ensures later { faults.old ≤ faults.new }
     ensures rose { result ≡ AttachFault.Failed → Rose faults.old faults.new }

@@ -87,7 +87,7 @@ fn number_of(row: &Row) -> Option<u64>
     }
 }
 
-/// The one text that sets the number.
+/// Sets the number by one statement.
 #[tactic(auto, unfolding(jac_sql_spec::specs::Statements::numbering))]
 pub fn set_number<S: Alter>(tx: &mut Transaction<'_, S>, number: u64) -> Result<(), Error>
     ensures same { tx.new.conn.ghost_name ≡ tx.old.conn.ghost_name }
@@ -99,7 +99,7 @@ pub fn set_number<S: Alter>(tx: &mut Transaction<'_, S>, number: u64) -> Result<
     }
 }
 
-/// Sets the number, and the schema text where there is one.
+/// Sets the number, and the schema text if there is one.
 pub fn set_meta<S: Alter>(
     tx: &mut Transaction<'_, S>,
     number: u64,
@@ -115,7 +115,7 @@ pub fn set_meta<S: Alter>(
     }
 }
 
-/// The one text that sets the number and the schema text.
+/// Sets the number and the schema text by one statement.
 #[tactic(auto, unfolding(jac_sql_spec::specs::Statements::reshaping))]
 pub fn set_schema<S: Alter>(
     tx: &mut Transaction<'_, S>,
@@ -132,7 +132,7 @@ pub fn set_schema<S: Alter>(
     }
 }
 
-/// Whether the database has nothing.
+/// Whether the database is empty.
 pub fn has_nothing<S: Alter>(conn: &Connection<S>) -> bool
     ensures { result ≡ true → (state S.Store conn.now).now.schema ≡ no_tables }
 {
@@ -149,7 +149,7 @@ fn is_nothing(schema: &Schema) -> bool
     schema.views.is_empty()
 }
 
-/// Tests that the table has one row, and that its key is 0.
+/// Tests that the table `meta` has one row, and that the key of this row is 0.
 #[tactic(auto, unfolding(jac_sql_spec::specs::Statements::key_reading))]
 pub fn test_key<S: Alter>(conn: &mut Connection<S>) -> Result<(), Unfit>
     ensures shown { HasCleanDisk (state S.Store conn.new)
@@ -196,7 +196,7 @@ fn is_zero(row: &Row) -> bool
     }
 }
 
-/// The schema that is stored, where it isn't this one.
+/// The stored schema, if it isn't this one.
 pub fn find_schema<S: Alter>(
     alloc: Global,
     conn: &mut Connection<S>,
@@ -216,7 +216,7 @@ pub fn find_schema<S: Alter>(
     }
 }
 
-// The stored schema, where it isn't this one. The number is read only where it is.
+// The stored schema, if it isn't this one. The number is read only if the schemas are the same.
 fn other_schema(alloc: Global, row: &Row, schema: &Txt) -> Result<Option<Txt>, Error>
     ensures { Tells schema.now row.now result }
 {

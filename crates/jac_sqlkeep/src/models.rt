@@ -4,7 +4,7 @@ ghost use Rattle.std.specs.Option.{option_copied};
 use jac_rows::Shape;
 use jac_value::Kind;
 
-/// The kinds of the model's fields; a model beyond the shape has none.
+/// The kinds of the model's fields. A model beyond the shape has none.
 pub fn kinds_of(shape: &Shape, model: u8) -> Option<&[Kind]>
     ensures { option_copied result ≡ slice_get shape.now.kinds model }
 {
@@ -14,7 +14,7 @@ pub fn kinds_of(shape: &Shape, model: u8) -> Option<&[Kind]>
     }
 }
 
-/// Whether the model's records stand under records of another one.
+/// Whether the model's records are nested under records of another model.
 pub fn is_nested(shape: &Shape, model: u8) -> bool
     ensures { result ≡ unwrap_or (slice_get shape.now.nested model) false }
 {

@@ -19,16 +19,16 @@ use std::{fs, io};
 
 /// What opens a database.
 pub trait Opener {
-    /// What the tables lie in: a file or memory.
+    /// Where the tables are stored: a file or memory.
     type Store: Alter + Drop;
 
-    /// How often an opening failed. It never falls, and stands still at 2^64 - 1.
+    /// How often an opening failed. The count never falls, and it stops at 2^64 - 1.
     ghost faults: { Self → ℕ };
 
-    /// How many connections it has given.
+    /// How many connections it gave.
     ghost gave: { Self → ℕ };
 
-    /// What is known of a connection of this name as it is given.
+    /// What is known of a connection with this name when it is given.
     ghost gives: { Option (List ℕ) → Held Self.Store → Type 0 };
 
     /// Opens the database of this name, or makes it.
@@ -46,18 +46,18 @@ pub trait Opener {
 /// Why a file wasn't opened.
 #[derive(Clone, Copy)]
 pub enum OpenFault {
-    /// It isn't there, and none is to be made.
+    /// The file doesn't exist, and it isn't to be made.
     Missing,
     /// Another program has it open.
     Held,
-    /// What it holds is no sound database.
+    /// The file doesn't hold a sound database.
     Unsound,
     Memory,
     Other,
 }
 
-// How the file of an opener was opened: whether it was, the name of the log that was made, why the
-// last opening failed, and how often one did.
+// The result of opening the file: whether it was opened, the name of the log that was made, why the
+// last opening failed, and how often an opening failed.
 #[derive(Drop)]
 struct Outcome {
     opened: bool,
@@ -91,8 +91,8 @@ impl Outcome {
     }
 }
 
-/// Opens a file, once. What it holds is supposed: where the disk is clean, the database is what
-/// these bytes of its log and its file stand for.
+/// Opens a file, once. The contents of the file are supposed: if the disk is clean, the database is
+/// the one that these bytes of its log and its file represent.
 #[derive(Drop)]
 pub struct FileOpener<S: Start> {
     rt: HostRuntime,
@@ -102,7 +102,7 @@ pub struct FileOpener<S: Start> {
 }
 
 impl<S: Start> FileOpener<S> {
-    /// One that makes the file if it isn't there, or one that doesn't open it then.
+    /// An opener that makes the file if it doesn't exist, or one that fails then.
     pub fn new(rt: HostRuntime, makes: bool, start: S) -> FileOpener<S>
         ensures faults { result.outcome.faults ≡ 0 }
         ensures opened { result.outcome.opened ≡ false }
@@ -115,8 +115,8 @@ impl<S: Start> FileOpener<S> {
         }
     }
 
-    /// The name of the log that the opening made beside a file that was there and had none, where
-    /// the file was opened.
+    /// If the file was opened, the name of the log that the opening made. It makes one if the file
+    /// existed and had no log.
     pub fn new_log(&self) -> Option<&Txt> {
         self.outcome.log.as_ref()
     }
@@ -136,8 +136,8 @@ impl<S: Start> Opener for FileOpener<S> {
 
     ghost gives = { λ name c. IsFileGiven (image_at S.Start) (file_state c) × IsNew c };
 
-    /// `Failed` without a name, and where it opened a file before. That it is the file of the name
-    /// is the host's to say: no clause says it.
+    /// Fails with `Failed` if there is no name, or if it opened a file before. No contract says
+    /// that the file is the one with this name, because only the host knows that.
     fn open(
         &mut self,
         _: Global,
@@ -157,8 +157,8 @@ impl<S: Start> Opener for FileOpener<S> {
     }
 }
 
-/// Opens the file of a program, once. Nothing is supposed of it. It opens as `FileOpener` does, and
-/// has no type parameter.
+/// Opens the file of a program, once. Nothing is supposed of the file. It opens as `FileOpener`
+/// does, and has no type parameter.
 #[derive(Drop)]
 pub struct HostOpener {
     rt: HostRuntime,
@@ -168,7 +168,7 @@ pub struct HostOpener {
 }
 
 impl HostOpener {
-    /// One that makes the file if it isn't there, or one that doesn't open it then.
+    /// An opener that makes the file if it doesn't exist, or one that fails then.
     pub fn new(rt: HostRuntime, makes: bool) -> HostOpener
         ensures faults { result.outcome.faults ≡ 0 }
         ensures opened { result.outcome.opened ≡ false }
@@ -181,8 +181,8 @@ impl HostOpener {
         }
     }
 
-    /// The name of the log that the opening made beside a file that was there and had none, where
-    /// the file was opened.
+    /// If the file was opened, the name of the log that the opening made. It makes one if the file
+    /// existed and had no log.
     pub fn new_log(&self) -> Option<&Txt> {
         self.outcome.log.as_ref()
     }
@@ -220,7 +220,7 @@ impl Opener for HostOpener {
     }
 }
 
-// Opens the file of the name, or makes it; without a start it was opened before.
+// Opens the file of this name, or makes it. If there is no `start`, a file was opened before.
 fn open_once<S: Start>(
     rt: &HostRuntime,
     makes: bool,
@@ -263,7 +263,7 @@ fn open_once<S: Start>(
     }
 }
 
-// Whether there is such a file, which can be read.
+// Whether there is such a file and it can be read.
 fn is_there(rt: &HostRuntime, name: Option<&Txt>) -> bool {
     match name {
         Some(name) => fs::File::open(rt, name.as_str()).is_ok(),
@@ -281,8 +281,8 @@ fn fault_of(error: Error) -> OpenFault {
     }
 }
 
-// A log that is made for a file that is refused is removed while the files are locked: so it is
-// this opening's own. One that something was written to stays, for the next opening.
+// If the file is refused, a log that was made for it is removed while the files are locked. So it
+// is this opening's own log. A log that something was written to stays for the next opening.
 fn open_file<S: Start>(
     rt: &HostRuntime,
     name: Option<&Txt>,
@@ -324,8 +324,8 @@ fn is_empty(rt: &HostRuntime, name: &str) -> bool {
     }
 }
 
-// The name of the log beside a file that is there, where there is none yet: beside the file that a
-// link leads to, and not beside the link.
+// The name of the log beside an existing file that has no log yet. If the name is a link, the log
+// is beside the file that the link leads to.
 fn log_to_come(rt: &HostRuntime, name: Option<&Txt>) -> Option<Txt> {
     let name = name?;
     let Ok(real) = fs::canonicalize(rt, name.as_str()) else {
@@ -346,7 +346,7 @@ fn log_beside(alloc: Global, name: &str) -> Result<Txt, AllocError> {
     Ok(Txt::from_string(log))
 }
 
-/// Opens a new database in memory, whatever the name.
+/// Opens a new database in memory, for any name.
 #[derive(Drop)]
 pub struct MemoryOpener {
     given: u64,
@@ -369,7 +369,7 @@ impl Opener for MemoryOpener {
 
     ghost gives = { λ name c. IsEmpty (state over_memory c) × IsNew c };
 
-    /// It has no table at all. After 2^64 - 1 databases it gives none.
+    /// The database has no tables. After 2^64 - 1 databases it gives none.
     fn open(&mut self, alloc: Global, _: Option<&Txt>) -> Result<Connection<MemStore>, AttachFault>
         ensures opens { OpensFile 0 0 result }
         ensures counts { GivesOne self.old.given self.new.given result }

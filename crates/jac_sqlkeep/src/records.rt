@@ -104,7 +104,7 @@ fn record_found(
     }
 }
 
-// All rows of the model, as far as they can be read.
+// All rows of the model. A row that can't be read is an error.
 #[tactic(auto, unfolding(jac_sql_spec::specs::Statements::model_reading))]
 fn model_rows<S: Alter>(
     alloc: Global,
@@ -125,8 +125,8 @@ fn model_rows<S: Alter>(
     }
 }
 
-// The rows are made one after another, so that all that the database shows of them is never held
-// beside them.
+// Makes the rows one after another, so that the rows that the database returns are never all in
+// memory beside them.
 fn rows_shown<S: Alter>(
     alloc: Global,
     showing: &mut Showing<'_, S>,
@@ -151,7 +151,7 @@ fn rows_shown<S: Alter>(
     Err(NO_MEMORY)
 }
 
-// The next row of the model that is shown, if there is one.
+// The next row of the model that the query returns, if there is one.
 fn next_of_model<S: Alter>(
     alloc: Global,
     showing: &mut Showing<'_, S>,
@@ -195,7 +195,7 @@ fn row_of_model(alloc: Global, values: &Found, model: u8, kinds: &[Kind]) -> Res
     }
 }
 
-/// The row of this id whose guard and cells stand in these columns.
+/// The row with this id. Its guard and its cells are in these columns.
 pub fn row_in(
     alloc: Global,
     id: Id,
@@ -225,8 +225,8 @@ pub fn blob_at(values: &Found, at: usize) -> Result<&[u8], Error>
     }
 }
 
-/// Replaces the named records, and sets the number and the schema text where there is one, all or
-/// nothing. Where a record is none of so many models, it does nothing.
+/// Replaces the named records, sets the number, and sets the schema text if there is one, all or
+/// nothing. If a record belongs to none of the first `models` models, it does nothing.
 pub fn write_change<S: Alter>(
     alloc: Global,
     conn: &mut Connection<S>,
@@ -257,7 +257,7 @@ pub fn write_change<S: Alter>(
     }
 }
 
-// Whether each record is one of so many models.
+// Whether each record belongs to one of the first `models` models.
 fn are_placed(changed: &[Alteration], models: usize) -> bool
     ensures { result ≡ true → AreNarrow changed.now × ArePlaced changed.now models }
 {
@@ -312,7 +312,7 @@ fn write_records<S: Alter>(
     Ok(())
 }
 
-/// Replaces one record: the text that removes it, and then one for each alternative.
+/// Replaces one record: one statement removes it, and then one statement adds each alternative.
 #[tactic(auto, using(crate::proofs::Steps::replaced_start, crate::proofs::Steps::replaced_next, crate::proofs::Steps::replaced_end, crate::proofs::Steps::halfway_failed, crate::proofs::Steps::failed_of, crate::proofs::Read::all_behind))]
 pub fn write_record<S: Alter>(
     alloc: Global,
@@ -332,7 +332,7 @@ pub fn write_record<S: Alter>(
     Ok(())
 }
 
-/// The one text that removes the alternatives of a record.
+/// Removes the alternatives of a record by one statement.
 #[tactic(auto, unfolding(jac_sql_spec::specs::Statements::removal))]
 pub fn remove<S: Alter>(tx: &mut Transaction<'_, S>, id: Id) -> Result<(), Error>
     ensures same { tx.new.conn.ghost_name ≡ tx.old.conn.ghost_name }
@@ -342,7 +342,7 @@ pub fn remove<S: Alter>(tx: &mut Transaction<'_, S>, id: Id) -> Result<(), Error
     run(tx, REMOVE, params![u32::from(id_model(id)), jid.as_slice()])
 }
 
-/// The one text that adds an alternative.
+/// Adds an alternative by one statement.
 pub fn add<S: Alter>(
     alloc: Global,
     tx: &mut Transaction<'_, S>,

@@ -5,7 +5,7 @@ ghost use Rattle.jac_sql_spec.specs.Transaction.{Inside};
 use sqlite::types::ValueRef;
 use sqlite::{Alter, Error, Transaction};
 
-/// One statement inside of a transaction.
+/// Runs one statement inside a transaction.
 #[tactic(auto, using(crate::proofs::Steps::one_ran, crate::proofs::Steps::one_failed))]
 pub fn run<S: Alter>(
     tx: &mut Transaction<'_, S>,

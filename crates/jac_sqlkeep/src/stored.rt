@@ -1,4 +1,4 @@
-//! A store that an earlier run made: all of it is read and tested before it is told.
+//! A store that an earlier run made. All of it is read and tested before its state is known.
 ghost use Rattle.std.specs.Prelude.{◌≡◌, ◌<◌, ◌++◌, ◌∷◌, [], ℕ, Bool, List, pos, length, None, true, false, IfOk, OnOk, OnErr, IsErr};
 ghost use Rattle.std.specs.List.{AllByRecursion};
 ghost use Rattle.std.specs.List.Sorted.{IsPermutation};
@@ -51,7 +51,7 @@ pub fn test_stored<S: Alter>(
     test_rows(alloc, conn, shape, number)
 }
 
-/// Tests that the rows are those of tables of this shape, and that no rowid comes twice.
+/// Tests that the rows are those of tables of this shape, and that no rowid occurs twice.
 pub fn test_rows<S: Alter>(
     alloc: Global,
     conn: &mut Connection<S>,
@@ -70,7 +70,7 @@ pub fn test_rows<S: Alter>(
     test_rowids(rowids)
 }
 
-// Reads all rows, as far as they are those of tables of this shape, and gives their rowids.
+// Reads all rows, tests that they are those of tables of this shape, and returns their rowids.
 #[tactic(auto, unfolding(jac_sql_spec::specs::Statements::all_reading))]
 fn read_lines<S: Alter>(
     alloc: Global,
@@ -93,7 +93,7 @@ fn read_lines<S: Alter>(
     }
 }
 
-// Each row is tested as it is shown, and let go then, so that they are never held together.
+// Tests each row when the query returns it, and drops it then. So the rows are never all in memory.
 fn lines_shown<S: Alter>(
     alloc: Global,
     showing: &mut Showing<'_, S>,
@@ -135,7 +135,7 @@ fn with_rowid(rowids: Vec<i64>, rowid: i64) -> Result<Vec<i64>, Unfit>
     }
 }
 
-// Reads the next row that is shown, if there is one, after those that were read.
+// Reads the next row that the query returns, if there is one, after those that were read.
 fn next_line<S: Alter>(
     alloc: Global,
     showing: &mut Showing<'_, S>,
@@ -187,7 +187,7 @@ fn rowid_of(values: &Found) -> Result<i64, Error>
     }
 }
 
-// Tests that no rowid comes twice, of those that were read.
+// Tests that no rowid occurs twice among those that were read.
 fn test_rowids(read: Result<Vec<i64>, Unfit>) -> Result<(), Unfit>
     ensures apart { OnOk result (IfOk read (λ rowids. NoneComesTwice rowids.items)) }
     ensures none { OnErr read (IsErr result) }
@@ -242,7 +242,7 @@ struct Last {
     guards: Alternatives,
 }
 
-// The record up to a row that was read, and the rowid of the row.
+// The last record after a row was read, and the rowid of the row.
 #[derive(Drop)]
 struct Line {
     last: Last,
@@ -295,7 +295,7 @@ fn natural_at(values: &Found, at: usize) -> Result<u64, Error>
     }
 }
 
-// The row of the model, but for the number of the alternative.
+// The row of the model. The number of the alternative isn't tested here.
 fn stored_row(
     alloc: Global,
     shape: &Shape,
@@ -330,8 +330,8 @@ fn is_numbered(id: Id, number: u64) -> bool
     0 < request && request < u128::from(number)
 }
 
-// The record, where it is the last one or comes after it, and the guards of its alternatives that
-// were read.
+// The record, if it is the last one or comes after it, and the guards of its alternatives that were
+// read.
 fn moved(alloc: Global, last: Last, model: u8, id: Id) -> Result<Last, Error>
     ensures { IfOk result (λ before. (before.model ≡ model) × (before.id ≡ id)
         × ((all : List (List (ℕ × Bool))) → AreTaken all last.guards.guards.items
@@ -365,7 +365,7 @@ fn new_record(alloc: Global, model: u8, id: Id) -> Last
     }
 }
 
-// The row is the next alternative of the record, and apart from those before it.
+// Adds the row, if it is the next alternative of the record and excludes those before it.
 fn one_more(before: Last, values: &Found, row: Row) -> Result<Last, Error>
     ensures { IfOk result (λ next. (next.model ≡ before.model) × (next.id ≡ before.id)
         × ((all : List (List (ℕ × Bool))) → AreTaken all before.guards.guards.items
