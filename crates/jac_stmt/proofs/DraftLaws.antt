@@ -1,4 +1,4 @@
--- The cells that are set, and those of a new record.
+-- The cells that are set, and the cells of a new record.
 use Rattle.std.proofs.Common.{◌≡◌, ◌∙◌, refl, sym, ap, arith, ℕ, zero, suc, ◌+◌, ◌<◌, ◌==◌, Bool, true, if◌then◌else◌, List, [], ◌∷◌, ◌++◌, length, drop, append_assoc, append-nil, slice_set, Option, Some, None}
 use Rattle.std.proofs.lemmas.List.{length-append}
 use Rattle.jac_value.specs.declared.value.Kind.{Kind}
@@ -14,7 +14,7 @@ use Rattle.jac_expr.specs.Tupled.{all_at}
 use Rattle.jac_write.specs.Writes.{fitted_from, sets_at, put_in, is_put}
 use Rattle.jac_stmt.specs.Drafts.{placed_at, placed_sets, put_raw}
 
--- the sets by name and by place
+-- The sets by name and by place.
 
 pub drafted-placed : (models : List Entity) (fields : List Field) (value_of : Expression → Value) (sets : List Assigned) (cells : List Value)
     → drafted_cells models fields value_of sets cells ≡ put_in models fields (placed_sets fields value_of sets) cells
@@ -37,7 +37,7 @@ is_set-placed fields value_of (a ∷ rest) f = first (field_place fields a.field
     first None h = h
     first (Some g) h = ap (λ b. if g == f then true else b) h
 
--- cells of a new record
+-- Cells of a new record.
 
 fitting-default : (k : Kind) → fitting k (default_value k) ≡ default_value k
 fitting-default kind.Int = refl
@@ -61,7 +61,7 @@ defaults_from models before (f ∷ rest) =
     ∙ ap (λ n. default_value (kind_named models f.kind) ∷ fitted_from models ((before ++ f ∷ []) ++ rest) n (default_cells models rest)) long
     ∙ ap (λ vs. default_value (kind_named models f.kind) ∷ vs) (defaults_from models (before ++ f ∷ []) rest)
 
--- a cell that is put in its place
+-- A cell that is put in its place.
 fitted-set : (models : List Entity) (fields : List Field) (from f i : ℕ) (v : Value) (cells : List Value) → i ≡ from + f
     → fitted_from models fields from (slice_set cells f v) ≡ slice_set (fitted_from models fields from cells) f (fitting (kind_at models fields i) v)
 fitted-set models fields from f i v [] e = refl
@@ -78,7 +78,7 @@ fitted-put models fields (s ∷ sets) cells =
     fitted-put models fields sets (slice_set cells s.0 s.1)
     ∙ ap (put_in models fields sets) (fitted-set models fields 0 s.0 s.0 s.1 cells (omega arith))
 
--- the cells of a new record: what is set, and defaults
+-- The cells of a new record: the values that are set, and defaults.
 pub new-cells : (models : List Entity) (fields : List Field) (value_of : Expression → Value) (sets : List Assigned) (start made : List Value) (put : List (ℕ × Value))
     → start ≡ default_cells models fields → made ≡ put_raw put start → put ≡ placed_sets fields value_of sets
     → fitted_from models fields 0 made ≡ drafted_cells models fields value_of sets (default_cells models fields)
@@ -90,13 +90,13 @@ new-cells models fields value_of sets start made put defaults made_is placed =
     ∙ ap (λ p. put_in models fields p (default_cells models fields)) placed
     ∙ sym (drafted-placed models fields value_of sets (default_cells models fields))
 
--- loops
+-- Loops.
 
 pub all_at-append : {T : Type 0} (w : ℕ → Bool) (xs ys : List (Shape T)) → all_at w (xs ++ ys) ≡ all_at w xs ++ all_at w ys
 all_at-append w [] ys = refl
 all_at-append w (x ∷ xs) ys = ap (λ l. at w x ∷ l) (all_at-append w xs ys)
 
--- a default more
+-- One more default.
 pub default-next : (models : List Entity) (fields : List Field) (i : ℕ) (made : List (Shape Value)) (w : ℕ → Bool) (new : List (Shape Value)) (v : Shape Value)
     → i < length fields → new ≡ made ++ v ∷ [] → at w v ≡ default_value (kind_at models fields i)
     → all_at w made ++ default_cells models (drop i fields) ≡ default_cells models fields
@@ -124,7 +124,7 @@ pub all_at-length : {T : Type 0} (w : ℕ → Bool) (xs : List (Shape T)) → le
 all_at-length w [] = refl
 all_at-length w (x ∷ xs) = ap suc (all_at-length w xs)
 
--- a set more
+-- One more value that is set.
 pub sets_at-append : (w : ℕ → Bool) (xs ys : List (ℕ × Shape Value)) → sets_at w (xs ++ ys) ≡ sets_at w xs ++ sets_at w ys
 sets_at-append w [] ys = refl
 sets_at-append w (x ∷ xs) ys = ap (λ l. (x.0, at w x.1) ∷ l) (sets_at-append w xs ys)
@@ -137,7 +137,7 @@ placed-first fields value_of a rest = first (field_place fields a.field)
     first None = refl
     first (Some f) = refl
 
--- the sets so far and those to come, after one more
+-- The values that were set and those to come, after one more.
 pub sets-next : (fields : List Field) (value_of : Expression → Value) (a : Assigned) (rest all : List Assigned) (made new : List (ℕ × Value))
     → new ≡ made ++ placed_sets fields value_of (a ∷ []) → made ++ placed_sets fields value_of (a ∷ rest) ≡ placed_sets fields value_of all
     → new ++ placed_sets fields value_of rest ≡ placed_sets fields value_of all
@@ -147,7 +147,7 @@ sets-next fields value_of a rest all made new added so_far =
     ∙ ap (λ l. made ++ l) (placed-first fields value_of a rest)
     ∙ so_far
 
--- a set more, where the model has its field
+-- One more value that is set, if the model has its field.
 pub sets-pushed : (w : ℕ → Bool) (fields : List Field) (value_of : Expression → Value) (a : Assigned) (f : ℕ) (v : Shape Value) (made new : List (ℕ × Shape Value))
     → field_place fields a.field ≡ Some f → at w v ≡ value_of a.value → new ≡ made ++ (f, v) ∷ []
     → sets_at w new ≡ sets_at w made ++ placed_sets fields value_of (a ∷ [])

@@ -1,4 +1,4 @@
--- Steps for each of some values, and statements one after another: what is left to run.
+-- Steps for each of some values, and statements one after another, with what is left to run.
 use Rattle.std.proofs.Common.{◌≡◌, ◌∙◌, refl, sym, ap, subst, ℕ, Bool, true, false, if◌then◌else◌, List, [], ◌∷◌}
 use Rattle.jac_rows.specs.Good.{IsSound}
 use Rattle.jac_plain.specs.Statements.{Run}
@@ -6,7 +6,7 @@ use Rattle.jac_write.specs.Writes.{numbered_tables}
 use Rattle.jac_stmt.specs.Runs.{Faceted, run_at, RanWhere, RunsFaceted, RunsEach, after_each, MayAll}
 
 module _ {X : Type 0} (step : (ℕ → Bool) → X → Run → Run) (May : ℕ → (ℕ → Bool) → X → Run → Type 0) where
-  -- the values that are left leave, from now on, what all of them leave from the start
+  -- Running the values that are left from here gives the same as running all from the start.
   pub record RunningEach (n : ℕ) (all rest : (ℕ → Bool) → List X) (old now : Faceted) : Type 0 where
     pub here : (w : ℕ → Bool) → after_each (step w) (rest w) (run_at w now) ≡ after_each (step w) (all w) (run_at w old)
     pub may : (w : ℕ → Bool) → MayAll (step w) (May n w) (rest w) (run_at w now)
@@ -40,7 +40,7 @@ module _ {X : Type 0} (step : (ℕ → Bool) → X → Run → Run) (May : ℕ �
   may_rest n w true x xs r next e may = subst (λ (s : Run). MayAll (step w) (May n w) xs s) (sym e) may.1
   may_rest n w false x xs r next e may = subst (λ (s : Run). MayAll (step w) (May n w) xs s) (sym e) may
 
-  -- the step for the next value, where a test is true
+  -- The step for the next value, under the assignments that pass a test.
   pub each_next : (all rest more : (ℕ → Bool) → List X) (where_ : (ℕ → Bool) → Bool) (x : X) (old now new : Faceted)
       → ((w : ℕ → Bool) → rest w ≡ (if where_ w then x ∷ more w else more w))
       → IsRunningEach all rest old now → RunsFaceted (λ w. step w x) (λ n w. May n w x) where_ now new → IsRunningEach all more old new
@@ -58,9 +58,9 @@ module _ {X : Type 0} (step : (ℕ → Bool) → X → Run → Run) (May : ℕ �
         sound = ran.sound;
       }
 
--- statements one after another
+-- Statements one after another.
 
--- what is left, from now on, leaves what all leaves from the start
+-- Running what is left from here gives the same as running all from the start.
 pub record Going (n : ℕ) (all rest : (ℕ → Bool) → Run → Run) (May : ℕ → (ℕ → Bool) → Run → Type 0) (where_ : (ℕ → Bool) → Bool) (old now : Faceted) : Type 0 where
   pub here : (w : ℕ → Bool) → (if where_ w then rest w (run_at w now) else run_at w now) ≡ (if where_ w then all w (run_at w old) else run_at w old)
   pub may : (w : ℕ → Bool) → where_ w ≡ true → May n w (run_at w now)

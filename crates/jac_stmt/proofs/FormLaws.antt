@@ -1,4 +1,4 @@
--- What `if` and `for` leave, by what their bodies leave.
+-- The results of `if` and `for`, from the results of their bodies.
 use Rattle.std.proofs.Common.{◌≡◌, ◌∙◌, refl, sym, ap, subst, ℕ, Bool, true, false, if◌then◌else◌, List, [], ◌∷◌, None}
 use Rattle.jac_value.specs.declared.value.Value.{Value}
 use Rattle.jac_world.specs.World.{holds}
@@ -22,7 +22,7 @@ use Rattle.jac_stmt.specs.Runs.{faceted_run, run_at, Executes, RanEach, RunsEach
 use Rattle.jac_stmt.proofs.RunLaws.{MeansAt, value_here, sound_too}
 use Rattle.jac_plain.specs.Shown.{setting_around, setting_at, world_at}
 
--- one value, where the path condition holds
+-- One value, if the path condition holds.
 module _ {X : Type 0} (step : X → Run → Run) (May : X → Run → Type 0) where
   one_if : (c : Bool) (x : X) (r : Run) → after_each step (if c then x ∷ [] else []) r ≡ (if c then step x r else r)
   one_if true x r = refl
@@ -71,7 +71,7 @@ branches app ctx e first second pc start old new env env2 out out2 value leaves 
     by_value true v u k r e = ap (λ x. choose (is_true x) (leaves_all k first) (leaves_all k second) r) (e refl)
     by_value false v u k r e = refl
 
--- the body for each tuple
+-- The body for each tuple.
 each-bound : (app : App) (ctx : Ctx) (bs : List Binder) (body : Statements) (w : ℕ → Bool) (tuples : List (List ℕ)) (r : Run)
     → after_each (bound_at app ctx bs body w) tuples r ≡ for_each bs (λ ids. leaves_all (setting_around app ctx ids w) body) tuples r
 each-bound app ctx bs body w [] r = refl

@@ -9,7 +9,7 @@ use Rattle.jac_plain.specs.Statements.{with_value, binds}
 use Rattle.jac_expr.specs.Seen.{env_at}
 use Rattle.jac_stmt.specs.Places.{name_place_after, last_name_place}
 
--- the last binding has another name, or this one
+-- The last binding has another name, or this one.
 pub place_passed : (name : List ℕ) (outer : List (List ℕ × Shape Value)) (b : List ℕ × Shape Value) → same_text b.0 name ≡ false → last_name_place name (outer ++ b ∷ []) ≡ last_name_place name outer
 place_passed name [] b other = ap (λ c. name_place_after c None) other
 place_passed name (o ∷ outer) b other = ap (name_place_after (same_text o.0 name)) (place_passed name outer b other)
@@ -32,7 +32,8 @@ binds-place w name (b ∷ bs) = by (same_text b.0 name) (last_name_place name bs
     by false None h = h
     by false (Some i) h = h
 
--- what `assigned` does of a first binding, by whether a later one has the name, and whether this one has
+-- What `assigned` does with a first binding, by whether a later one has the name and whether this
+-- one has it.
 abbrev assigned_by : Bool → Bool → Binding → Value → List Binding → List Binding → List Binding
 assigned_by true one b v bs changed = b ∷ changed
 assigned_by false true b v bs changed = binding b.name v ∷ bs
@@ -56,7 +57,7 @@ module _ (w : ℕ → Bool) (name : List ℕ) (v : Value) where
       ∙ ap (λ l. assigned_by l (same_text b.0 name) (binding b.0 (at w b.1)) v (env_at w bs) (with_value name v (env_at w bs))) (binds-place w name bs ∙ ap is_there place)
       ∙ ap (λ o. assigned_by (is_there p) o (binding b.0 (at w b.1)) v (env_at w bs) (with_value name v (env_at w bs))) same
 
-  -- where no binding has the name
+  -- No binding has the name.
   pub assigned-none : (bs : List (List ℕ × Shape Value)) → last_name_place name bs ≡ None → with_value name v (env_at w bs) ≡ env_at w bs
   assigned-none [] none = refl
   assigned-none (b ∷ bs) none = step (last_name_place name bs) (same_text b.0 name) refl refl none
@@ -66,7 +67,7 @@ module _ (w : ℕ → Bool) (name : List ℕ) (v : Value) where
       step None true place same n = cc
       step (Some i) one place same n = cc
 
-  -- where the one at this place is the innermost, and gets another value under a condition
+  -- The binding at this place is the innermost, and gets another value under a condition.
   pub assigned-some : (c : Bool) (bs : List (List ℕ × Shape Value)) (i : ℕ) (x : List ℕ × Shape Value) (f : Shape Value) → last_name_place name bs ≡ Some i → x ≡ get_or bs i x
       → at w f ≡ (if c then v else at w x.1) → env_at w (slice_set bs i (x.0, f)) ≡ (if c then with_value name v (env_at w bs) else env_at w bs)
   assigned-some c [] i x f place item value = cc

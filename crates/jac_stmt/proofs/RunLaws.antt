@@ -1,4 +1,4 @@
--- Runs under all assignments: what a step leaves, and how steps join.
+-- Runs under all assignments: the result of a step, and how steps are joined.
 use Rattle.std.proofs.Math.Seq.{take-append_seam}
 use Rattle.std.proofs.Common.{◌≡◌, ◌∙◌, refl, sym, ap, subst, ℕ, Bool, true, false, if◌then◌else◌, List, [], ◌∷◌, ◌++◌, length, take, append-nil, zero, suc, None}
 use Rattle.jac_value.specs.declared.value.Value.{Value}
@@ -25,17 +25,17 @@ use Rattle.jac_stmt.specs.Runs.{Faceted, faceted_run, run_at, RanWhere, RunsFace
 use Rattle.jac_plain.specs.declared.pieces.Form.{Form}
 use Rattle.jac_plain.specs.Shown.{setting_at, world_at}
 
--- wherever the path condition holds the facet shows the value of the expression
+-- Wherever the path condition holds, the faceted value shows the value of the expression.
 abbrev pub MeansAt : App → Ctx → State → List (List ℕ × Shape Value) → List (ℕ × Bool) → Expression → Shape Value → Type 0
 MeansAt app ctx s env pc e f = (w : ℕ → Bool) → holds w pc ≡ true → at w f ≡ mean (world_at app ctx s w) e (env_at w env)
 
--- an expression is read in the run's world, since a statement has no record
+-- An expression is read in the run's world, because a statement has no record.
 pub value_here : (app : App) (ctx : Ctx) (s : State) (env : List (List ℕ × Shape Value)) (out : List (List (ℕ × Bool) × Piece)) (e : Expression) (w : ℕ → Bool)
     → ctx.this ≡ None → mean (world_at app ctx s w) e (env_at w env) ≡ value_in (setting_at app ctx w) e (run_at w (faceted_run s env out))
 value_here app ctx s env out e w none =
     ap (λ this. mean (record { models = (application_of app).models; this = this; viewer = ctx.viewer; tables = (project_at w s).tables }) e (env_at w env)) none
 
--- nothing is done
+-- Nothing is done.
 stays_if : (c : Bool) (step : Run → Run) (r : Run) → (c ≡ true → step r ≡ r) → r ≡ (if c then step r else r)
 stays_if true step r h = sym (h refl)
 stays_if false step r h = refl
@@ -48,7 +48,7 @@ nothing_runs step May where_ s env out same n sound may = record {
   sound = sound;
 }
 
--- a step that leaves the tables
+-- A step that doesn't change the tables.
 pub tables_stay : (step : (ℕ → Bool) → Run → Run) (May : ℕ → (ℕ → Bool) → Run → Type 0) (where_ : (ℕ → Bool) → Bool) (old new : State)
     (env env2 : List (List ℕ × Shape Value)) (out out2 : List (List (ℕ × Bool) × Piece)) → new ≡ old
     → ((w : ℕ → Bool) → run_at w (faceted_run old env2 out2) ≡ (if where_ w then step w (run_at w (faceted_run old env out)) else run_at w (faceted_run old env out)))
@@ -58,7 +58,7 @@ tables_stay step May where_ old new env env2 out out2 same left n sound may = re
   sound = subst (λ (s : State). IsSound (numbered_tables n s)) (sym same) sound;
 }
 
--- one more piece
+-- One more piece.
 
 piece_if : (c : Bool) (p : Piece) (r : Run) (step : Run → Run) (pieces : List Piece) → pieces ≡ r.pieces ++ (if c then p ∷ [] else []) → (c ≡ true → step r ≡ with_piece p r)
     → record r { pieces = pieces } ≡ (if c then step r else r)
@@ -74,7 +74,7 @@ adds_piece app ctx s pc old new env out out2 piece same is added =
     tables_stay _ (λ n w. MayRun n (setting_at app ctx w) s) (λ w. holds w pc) old new env env out out2 same
     (λ w. piece_if (holds w pc) (piece w) (run_at w (faceted_run old env out)) (leaves (setting_at app ctx w) s) (leaves_seen w out2) (added w) (is w))
 
--- the value of an expression comes onto the page
+-- The value of an expression is added to the page.
 pub adds_value : (app : App) (ctx : Ctx) (form : Form) (s : Statement) (e : Expression) (pc : List (ℕ × Bool)) (old new : State) (env : List (List ℕ × Shape Value)) (out out2 : List (List (ℕ × Bool) × Piece)) (value : Shape Value)
     → ctx.this ≡ None
     → ((w : ℕ → Bool) (r : Run) → leaves (setting_at app ctx w) s r ≡ with_piece (piece_of form (value_in (setting_at app ctx w) e r)) r)
@@ -88,7 +88,7 @@ adds_value app ctx form s e pc old new env out out2 value none is same means add
     is w r ∙ ap (λ v. with_piece (piece_of form v) r) (sym (value_here app ctx old env out e w none) ∙ sym (means w held)))
     added
 
--- another value of a name
+-- Another value of a name.
 env_if : (c : Bool) (step : Run → Run) (r : Run) (changed env2 : List Binding) → env2 ≡ (if c then changed else r.env) → (c ≡ true → step r ≡ with_env changed r)
     → with_env env2 r ≡ (if c then step r else r)
 env_if true step r changed env2 e is = ap (λ es. with_env es r) e ∙ sym (is refl)
@@ -103,7 +103,7 @@ assigns app ctx name e pc old new env env2 out value none same means changed =
     (λ w. env_if (holds w pc) (leaves (setting_at app ctx w) (Statement.assign name e)) (run_at w (faceted_run old env out)) (with_value name (at w value) (env_at w env)) (env_at w env2) (changed w)
     (λ held. ap (λ v. with_env (with_value name v (env_at w env)) (run_at w (faceted_run old env out))) (sym (value_here app ctx old env out e w none) ∙ sym (means w held))))
 
--- names that are bound for a while
+-- Names that are bound for a while.
 
 env_at-take : (w : ℕ → Bool) (n : ℕ) (es : List (List ℕ × Shape Value)) → env_at w (take n es) ≡ take n (env_at w es)
 env_at-take w zero es = refl
@@ -139,7 +139,7 @@ scopes body MayBody where_ inner s t env more env1 env2 env3 out out2 outer grow
       sound = ran.sound;
     }
 
--- one step and then another
+-- One step and then another.
 then_if : (c : Bool) (f g : Run → Run) (a b d : Run) → b ≡ (if c then f a else a) → d ≡ (if c then g b else b) → d ≡ (if c then g (f a) else a)
 then_if true f g a b d first second = second ∙ ap g first
 then_if false f g a b d first second = second ∙ first
@@ -162,7 +162,7 @@ then_runs f g MayF MayG where_ a b d first second n sound may =
       sound = two.sound;
     }
 
--- a write of the tables
+-- A write to the tables.
 write_if : (c : Bool) (f : PlainTables → PlainTables) (step : Run → Run) (r : Run) (tables : PlainTables) → tables ≡ (if c then f r.tables else r.tables) → (c ≡ true → step r ≡ record r { tables = f r.tables })
     → record r { tables = tables } ≡ (if c then step r else r)
 write_if true f step r tables written is = ap (λ ts. record r { tables = ts }) written ∙ sym (is refl)

@@ -1,4 +1,4 @@
--- Statements that write: what they leave, by what the writes leave.
+-- Statements that write: their results, from the results of the writes.
 use Rattle.std.proofs.Common.{◌≡◌, ◌∙◌, sym, ap, subst, arith, ℕ, ◌+◌, ◌<◌, ◌^◌, Bool, true, false, List, Some, None}
 use Rattle.jac_value.specs.declared.value.Value.{Value}
 use Rattle.jac_value.specs.declared.value.Value.TheVariants as value
@@ -31,12 +31,12 @@ use Rattle.jac_stmt.proofs.DraftLaws.{drafted-placed, is_set-placed}
 use Rattle.jac_stmt.proofs.RunLaws.{MeansAt, value_here, nothing_runs, written_ran, sound_too, write_runs, then_runs}
 use Rattle.jac_plain.specs.Shown.{setting_at, world_at}
 
--- all expressions are read in the run's world
+-- All expressions are read in the run's world.
 values_here : (app : App) (ctx : Ctx) (s : State) (env : List (List ℕ × Shape Value)) (out : List (List (ℕ × Bool) × Piece)) (w : ℕ → Bool) → ctx.this ≡ None
     → ◌≡◌ {A = Expression → Value} (λ e. value_in (setting_at app ctx w) e (run_at w (faceted_run s env out))) (λ e. mean (world_at app ctx s w) e (env_at w env))
 values_here app ctx s env out w none = λ i e. sym (value_here app ctx s env out e w none) i
 
--- taking records away
+-- Deleting records.
 
 pub deletes_none : (app : App) (ctx : Ctx) (name : List ℕ) (e : Expression) (pc : List (ℕ × Bool)) (s : State) (env : List (List ℕ × Shape Value)) (out : List (List (ℕ × Bool) × Piece))
     → model_place (application_of app).models name ≡ None → Executes app ctx (Statement.delete name e) pc (faceted_run s env out) (faceted_run s env out)
@@ -56,7 +56,7 @@ deletes app ctx name e pc m start old new env out target none place same means w
     ∙ ap (λ v. record r { tables = tables_after m v without r.tables }) (sym (value_here app ctx start env out e w none) ∙ sym (means w held)))
     write
 
--- changing records
+-- Updating records.
 
 pub updates_none : (app : App) (ctx : Ctx) (name : List ℕ) (e : Expression) (sets : List Assigned) (pc : List (ℕ × Bool)) (s : State) (env : List (List ℕ × Shape Value)) (out : List (List (ℕ × Bool) × Piece))
     → model_place (application_of app).models name ≡ None → Executes app ctx (Statement.update name e sets) pc (faceted_run s env out) (faceted_run s env out)
@@ -64,7 +64,7 @@ updates_none app ctx name e sets pc s env out none =
     nothing_runs (λ w. leaves (setting_at app ctx w) (Statement.update name e sets)) (λ n w. MayRun n (setting_at app ctx w) (Statement.update name e sets)) (λ w. holds w pc) s env out
     (λ w held. ap (λ m. update_run (setting_at app ctx w) m (value_in (setting_at app ctx w) e (run_at w (faceted_run s env out))) sets (run_at w (faceted_run s env out))) none)
 
--- the cells of an update, by names and by places
+-- The cells of an update, by names and by places.
 cells_remade : (models : List Entity) (w : ℕ → Bool) (m id : ℕ) (value_of : Expression → Value) (sets : List Assigned) (put : List (ℕ × Value)) → placed_sets (fields_at models m) value_of sets ≡ put
     → ◌≡◌ {A = List Value → List Value} (λ old. shielded_cells models w m id (is_set (fields_at models m) sets) (drafted_cells models (fields_at models m) value_of sets old)) (remade_cells models w m id put)
 cells_remade models w m id value_of sets put placed =
@@ -94,9 +94,9 @@ updates app ctx name e sets pc m start old new env out target put none place sam
     ∙ ap (λ (step : ℕ → List PlainRow → List PlainRow). record r { tables = tables_after m (at w target) step r.tables }) (λ i id rows. changed_rows id (remade id i) rows))
     write
 
--- making records
+-- Creating records.
 
--- the id of a record that is made here, around the loop's record where the model is nested
+-- The id of a record that is made here. It is around the loop's record if the model is nested.
 abbrev pub id_here : App → Ctx → ℕ → ℕ → ℕ
 id_here app ctx m site = around_id (is_nested_at (application_of app).models m) ctx.around (record_id ctx.number site m)
 
@@ -112,7 +112,7 @@ creates_none app ctx name model site sets body pc s env out none =
     nothing_runs (λ w. leaves (setting_at app ctx w) (Statement.create name model site sets body)) (λ n w. MayRun n (setting_at app ctx w) (Statement.create name model site sets body)) (λ w. holds w pc) s env out
     (λ w held. ap (λ m. create_run (setting_at app ctx w) name m site sets (leaves_all (setting_at app ctx w) body) (run_at w (faceted_run s env out))) none)
 
--- a record is made where one is asked for, and kept where its label is shown
+-- A record is made where the path condition holds, and kept where its label is shown.
 make_runs : (app : App) (ctx : Ctx) (m site : ℕ) (sets : List Assigned) (pc : List (ℕ × Bool)) (start old new : State) (env : List (List ℕ × Shape Value)) (out : List (List (ℕ × Bool) × Piece)) (cells : List (Shape Value))
     → let models = (application_of app).models in let id = id_here app ctx m site in
     holds (guard_wants pc) pc ≡ true → IsMade m (ctx.number + 1) id → ctx.this ≡ None → old ≡ start
@@ -141,7 +141,7 @@ make_runs app ctx m site sets pc start old new env out cells can_hold made none 
     ∙ ap (λ (x : ℕ). record r { tables = tables_created models w x id (all_at w cells) r.tables }) (sym of_model))
     (create n numbered absent (sound_too n start old same sound))
 
--- a new record, and then the body with the name bound to it
+-- A new record, and then the body with the name bound to it.
 pub makes : (app : App) (ctx : Ctx) (name : List ℕ) (m site : ℕ) (sets : List Assigned) (body : Statements) (pc : List (ℕ × Bool)) (start old mid new : State) (env env2 : List (List ℕ × Shape Value)) (out out2 : List (List (ℕ × Bool) × Piece))
     (cells : List (Shape Value)) (made : Shape Value)
     → let models = (application_of app).models in let id = id_here app ctx m site in

@@ -9,13 +9,13 @@ abbrev pub placed_at : Option ℕ → Value → List (ℕ × Value) → List (�
 placed_at None v rest = rest
 placed_at (Some f) v rest = (f, v) ∷ rest
 
--- each set with its field's place; one for a field that the model hasn't falls away
+-- Each value that is set, with its field's place. A field that the model doesn't have is left out.
 abbrev pub placed_sets : List Field → (Expression → Value) → List Assigned → List (ℕ × Value)
 placed_sets fields value_of [] = []
 placed_sets fields value_of (a ∷ rest) = placed_at (field_place fields a.field) (value_of a.value)
     (placed_sets fields value_of rest)
 
--- the cells with these in their places, whatever their kinds
+-- The cells with these values in their places, whatever their kinds.
 abbrev pub put_raw : List (ℕ × Value) → List Value → List Value
 put_raw [] cells = cells
 put_raw (s ∷ sets) cells = put_raw sets (slice_set cells s.0 s.1)

@@ -4,13 +4,14 @@ use Rattle.jac_value.specs.declared.value.Value.{Value}
 use Rattle.jac_facet.specs.Shape.{Shape}
 use Rattle.jac_lang.specs.Lookup.{same_text}
 
--- a place after the first item, or the first where it is the one and there is none after
+-- The place after one more item is put in front. If there was none, the front item, if it is the
+-- one.
 abbrev pub name_place_after : Bool → Option ℕ → Option ℕ
 name_place_after is_one (Some i) = Some (suc i)
 name_place_after true None = Some 0
 name_place_after false None = None
 
--- the place of the innermost binding of the name, which stands last
+-- The place of the innermost binding of the name, which is the last one.
 abbrev pub last_name_place : List ℕ → List (List ℕ × Shape Value) → Option ℕ
 last_name_place name [] = None
 last_name_place name (b ∷ bs) = name_place_after (same_text b.0 name) (last_name_place name bs)

@@ -24,8 +24,8 @@ use Rattle.jac_write.specs.Writes.{numbered_tables}
 use Rattle.jac_stmt.specs.declared.frame.Frame.{Frame}
 use Rattle.jac_plain.specs.Shown.{setting_around, setting_at}
 
--- a run under all assignments: the state of its work, the names in scope, and the pieces under
--- their guards
+-- A run under all assignments: the state of its work, the names in scope, and the pieces under
+-- their guards.
 pub record Faceted : Type 0 where
   pub state : State
   pub env : List (List ℕ × Shape Value)
@@ -38,7 +38,7 @@ faceted_run s env out = record { state = s; env = env; out = out }
 abbrev pub run_over : State → Frame → Faceted
 run_over s frame = faceted_run s frame.env frame.out
 
--- the run that an assignment shows
+-- The run that an assignment shows.
 abbrev pub run_at : (ℕ → Bool) → Faceted → Run
 run_at w f = record {
   tables = (project_at w f.state).tables;
@@ -49,15 +49,16 @@ run_at w f = record {
 abbrev pub setting_here : FacetedContext → (ℕ → Bool) → Setting
 setting_here here w = setting_at here.app.now here.ctx.now w
 
--- where the test is true the run is what the step leaves, elsewhere it is as before; and tables
--- that are sound with the next number n stay so
+-- Under the assignments that pass the test, the run is the result of the step. Under the others it
+-- is as before. Tables that are sound with the next number `n` stay sound.
 pub record RanWhere (n : ℕ) (step : (ℕ → Bool) → Run → Run) (where_ : (ℕ → Bool)
     → Bool) (old new : Faceted) : Type 0 where
   pub left : (w : ℕ → Bool) → run_at w new ≡ (if where_ w then step w (run_at w old)
       else run_at w old)
   pub sound : IsSound (numbered_tables n new.state)
 
--- what a step leaves of tables that are sound, where what it makes is new wherever the test is true
+-- The result of a step on sound tables, if the records that it makes are new under each assignment
+-- that passes the test.
 abbrev pub RunsFaceted : ((ℕ → Bool) → Run → Run) → (ℕ → (ℕ → Bool) → Run → Type 0) → ((ℕ → Bool)
     → Bool)
     → Faceted → Faceted → Type 0
@@ -65,7 +66,7 @@ RunsFaceted step May where_ old new =
     (n : ℕ) → IsSound (numbered_tables n old.state) → ((w : ℕ → Bool) → where_ w ≡ true
     → May n w (run_at w old)) → RanWhere n step where_ old new
 
--- what the interpreter's statement leaves, wherever the path condition holds
+-- The result of the interpreter's statement, wherever the path condition holds.
 abbrev pub Executes : App → Ctx → Statement → List (ℕ × Bool) → Faceted → Faceted → Type 0
 Executes app ctx s pc old new =
     RunsFaceted (λ w. leaves (setting_at app ctx w) s) (λ n w. MayRun n (setting_at app ctx w) s)
@@ -77,7 +78,7 @@ ExecutesAll app ctx ss pc old new =
     (setting_at app ctx w) ss)
     (λ w. holds w pc) old new
 
--- the same of a statement that stands here
+-- The same for a statement in this context.
 abbrev pub ExecutesHere : FacetedContext → Statement → Faceted → Faceted → Type 0
 ExecutesHere here s old new = Executes here.app.now here.ctx.now s here.pc.now old new
 
@@ -85,7 +86,7 @@ abbrev pub ExecutesAllHere : FacetedContext → Statements → Faceted → Facet
 ExecutesAllHere here ss old new = ExecutesAll here.app.now here.ctx.now ss here.pc.now old new
 
 abbrev mutual
-  -- no template stands in the statement, and the ids that its creates give are ids
+  -- The statement has no template, and the ids that its creates give are valid.
   pub IsRunnable : ℕ → Statement → Type 0
   IsRunnable number (Statement.put e) = ⊤
   IsRunnable number (Statement.escape e) = ⊤
@@ -107,17 +108,17 @@ abbrev mutual
   AreRunnable number Statements.none = ⊤
   AreRunnable number (Statements.more s rest) = IsRunnable number s × AreRunnable number rest
 
--- a step for each of the values, one after another
+-- A step for each of the values, one after another.
 abbrev pub after_each : {X : Type 0} → (X → Run → Run) → List X → Run → Run
 after_each step [] r = r
 after_each step (x ∷ xs) r = after_each step xs (step x r)
 
--- what each step asks, in the run that those before it leave
+-- What each step requires of the run that the steps before it leave.
 abbrev pub MayAll : {X : Type 0} → (X → Run → Run) → (X → Run → Type 0) → List X → Run → Type 0
 MayAll step May [] r = ⊤
 MayAll step May (x ∷ xs) r = May x r × MayAll step May xs (step x r)
 
--- the run is what a step for each of the values leaves that an assignment shows
+-- The run is the result of a step for each of the values that an assignment shows.
 pub record RanEach {X : Type 0} (n : ℕ) (step : (ℕ → Bool) → X → Run → Run) (values : (ℕ → Bool)
     → List X) (old new : Faceted) : Type 0 where
   pub left : (w : ℕ → Bool) → run_at w new ≡ after_each (step w) (values w) (run_at w old)
@@ -130,7 +131,7 @@ RunsEach step May values old new =
     → ((w : ℕ → Bool) → MayAll (step w) (May n w) (values w) (run_at w old))
     → RanEach n step values old new
 
--- the one body or the other, by a value
+-- The one body or the other, by a value.
 abbrev pub chosen_at : App → Ctx → Statements → Statements → (ℕ → Bool) → Value → Run → Run
 chosen_at app ctx first second w v = choose (is_true v) (leaves_all (setting_at app ctx w) first)
     (leaves_all (setting_at app ctx w) second)
@@ -139,7 +140,7 @@ abbrev pub MayChooseAt : App → Ctx → Statements → Statements → ℕ → (
 MayChooseAt app ctx first second n w v = MayChoose (is_true v) (MayRunAll n (setting_at app ctx w)
     first) (MayRunAll n (setting_at app ctx w) second)
 
--- the body with the binders bound to a tuple, around whose record it makes records
+-- The body with the binders bound to a tuple. It makes records around the tuple's record.
 abbrev pub bound_at : App → Ctx → List Binder → Statements → (ℕ → Bool) → List ℕ → Run → Run
 bound_at app ctx bs body w ids r = scoped_run (bound bs ids r.env)
     (leaves_all (setting_around app ctx ids w) body) r
@@ -148,7 +149,7 @@ abbrev pub MayBindAt : App → Ctx → List Binder → Statements → ℕ → (�
 MayBindAt app ctx bs body n w ids r = MayRunAll n (setting_around app ctx ids w) body
     (with_env (bound bs ids r.env) r)
 
--- the body with a name bound to a value
+-- The body with a name bound to a value.
 abbrev pub named_at : App → Ctx → List ℕ → ((ℕ → Bool) → Value) → Statements → (ℕ → Bool) → Run
     → Run
 named_at app ctx name value_at body w r = with_binding name (value_at w)
@@ -159,6 +160,6 @@ abbrev pub MayNameAt : App → Ctx → List ℕ → ((ℕ → Bool) → Value) �
 MayNameAt app ctx name value_at body n w r = MayRunAll n (setting_at app ctx w) body
     (with_env (r.env ++ binding name (value_at w) ∷ []) r)
 
--- the tuples that hold, where the path condition does
+-- The tuples that hold, if the path condition holds.
 abbrev pub live_under : List (ℕ × Bool) → List Tuple → (ℕ → Bool) → List (List ℕ)
 live_under pc ts w = if holds w pc then live w ts else []

@@ -1,4 +1,4 @@
-//! Names that get another value under a path condition.
+//! Assignments to names under a path condition.
 ghost use Rattle.std.specs.Prelude.{◌≡◌, ◌<◌, ℕ, Bool, if◌then◌else◌, length, IfSome, OnOk};
 ghost use Rattle.jac_expr.specs.Seen.{env_at};
 ghost use Rattle.jac_facet.specs.Shape.{at};
@@ -14,8 +14,8 @@ use std::alloc::Global;
 use std::mem;
 use std::sync::ledger::Ledger;
 
-/// Changes the innermost binding of the name wherever the path condition holds; nothing where there
-/// is none.
+/// Changes the innermost binding of the name wherever the path condition holds. Does nothing if the
+/// name has no binding.
 pub(crate) fn assign<L: Ledger>(
     alloc: Global,
     env: &mut Env,
@@ -54,7 +54,7 @@ fn assign_in<L: Ledger>(
     Ok(())
 }
 
-// The place of the innermost binding of the name, which stands last.
+// The place of the innermost binding of the name, which is the last one.
 fn innermost(bindings: &[(Txt, Facet<Value>)], name: &Txt) -> Option<usize>
     ensures place { result ≡ last_name_place name.now bindings.now }
     ensures within { IfSome result (λ p. p < length bindings.now) }

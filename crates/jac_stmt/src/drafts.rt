@@ -23,7 +23,8 @@ use jac_write::Sets;
 use std::alloc::Global;
 use std::sync::ledger::Ledger;
 
-/// The values that are set, each with its field's number. A field that the model hasn't falls away.
+/// The values that are set, each with its field's number. A field that the model doesn't have is
+/// left out.
 pub(crate) fn read_sets<K: Keeper, L: Ledger>(
     work: &mut Work<'_, K>,
     here: &FacetedContext<'_>,
@@ -86,7 +87,7 @@ fn read_set<K: Keeper, L: Ledger>(
     Ok(())
 }
 
-/// The cells of a new record: the values that are set, and defaults.
+/// The cells of a new record: the values that are set, and defaults for the other fields.
 pub(crate) fn new_cells<K: Keeper, L: Ledger>(
     work: &mut Work<'_, K>,
     here: &FacetedContext<'_>,

@@ -1,4 +1,4 @@
-//! Statements, run under a path condition. `execute` only looks at the form; each form is a
+//! Statements, run under a path condition. `execute` only looks at the form, and each form has a
 //! function of its own.
 ghost use Rattle.std.specs.Prelude.{◌≡◌, ◌<◌, ◌≤◌, ◌^◌, ◌&&◌, length, None, IfSome, OnOk, IsTrue, Some, ℕ, Bool, List};
 ghost use Rattle.jac_facet.specs.Leaves.{leaves_seen};
@@ -30,7 +30,7 @@ use jac_world::{Guard, Steps};
 use jac_write::{create, delete, update};
 use std::sync::ledger::Ledger;
 
-/// A statement that makes a record.
+/// A statement that creates a record.
 #[derive(Clone, Copy)]
 struct Creation<'s> {
     name: &'s Txt,
@@ -40,9 +40,9 @@ struct Creation<'s> {
     body: &'s Stmts,
 }
 
-/// Runs the statements, one after another, wherever the path condition holds. Elsewhere all stays
-/// as it was. `this` of the context isn't asked: a statement has none. `around` is the record of
-/// the loop that the statements stand in, and none outside of loops. After a refusal the names and
+/// Runs the statements, one after another, wherever the path condition holds. Elsewhere nothing
+/// changes. `this` of the context isn't used, because a statement has none. `around` is the record
+/// of the loop around the statements. It is `None` outside of loops. After a refusal the names and
 /// the pieces may hold a part of what was run.
 pub fn exec<K: Keeper, L: Ledger>(
     work: &mut Work<'_, K>,
@@ -62,7 +62,7 @@ pub fn exec<K: Keeper, L: Ledger>(
     ensures told { OnOk result (StaysTold K.seen work.old work.new) }
     ensures keeps { WritesWork K.seen work.old work.new result }
 {
-    // A statement has no record whose policy is asked.
+    // A statement has no record of its own, because it isn't in a policy.
     let ctx = Ctx {
         this: None,
         ..*here.ctx
@@ -204,7 +204,7 @@ fn execute_escape<K: Keeper, L: Ledger>(
     Ok(())
 }
 
-// Leads to the value's text.
+// Redirects to the value's text.
 fn execute_redirect<K: Keeper, L: Ledger>(
     work: &mut Work<'_, K>,
     here: &FacetedContext<'_>,
@@ -226,7 +226,7 @@ fn execute_redirect<K: Keeper, L: Ledger>(
     Ok(())
 }
 
-// Makes the page one that isn't there.
+// Makes the page a missing one.
 fn execute_missing<K: Keeper, L: Ledger>(
     work: &mut Work<'_, K>,
     here: &FacetedContext<'_>,
@@ -268,7 +268,7 @@ fn execute_assign<K: Keeper, L: Ledger>(
     Ok(())
 }
 
-// The body with the name bound to the value.
+// Runs the body with the name bound to the value.
 #[cycle(exec)]
 fn execute_let<K: Keeper, L: Ledger>(
     work: &mut Work<'_, K>,
@@ -296,7 +296,7 @@ fn execute_let<K: Keeper, L: Ledger>(
     Ok(())
 }
 
-// The body with the name bound to this.
+// Runs the body with the name bound to this value.
 #[cycle(exec)]
 fn execute_named<K: Keeper, L: Ledger>(
     work: &mut Work<'_, K>,
@@ -330,8 +330,8 @@ fn execute_named<K: Keeper, L: Ledger>(
     Ok(())
 }
 
-// The one body or the other, once for each value that the condition can have, under the guard of
-// that value.
+// Runs the one body or the other, once for each value that the condition can have, under the guard
+// of that value.
 #[cycle(exec)]
 fn execute_if<K: Keeper, L: Ledger>(
     work: &mut Work<'_, K>,
@@ -363,7 +363,7 @@ fn execute_if<K: Keeper, L: Ledger>(
     Ok(())
 }
 
-// A body for each of the values.
+// Runs a body for each of the values.
 #[cycle(exec)]
 fn execute_leaves<K: Keeper, L: Ledger>(
     work: &mut Work<'_, K>,
@@ -400,7 +400,7 @@ fn execute_leaves<K: Keeper, L: Ledger>(
     Ok(())
 }
 
-// The body for this value of the condition.
+// Runs the body for this value of the condition.
 #[cycle(exec)]
 fn execute_leaf<K: Keeper, L: Ledger>(
     work: &mut Work<'_, K>,
@@ -435,7 +435,7 @@ fn execute_leaf<K: Keeper, L: Ledger>(
     Ok(())
 }
 
-// The body for each answer of the query, which is asked once.
+// Runs the body for each tuple of the query, which is evaluated once.
 #[cycle(exec)]
 fn execute_for<K: Keeper, L: Ledger>(
     work: &mut Work<'_, K>,
@@ -464,7 +464,7 @@ fn execute_for<K: Keeper, L: Ledger>(
     Ok(())
 }
 
-// The body for each of the tuples.
+// Runs the body for each of the tuples.
 #[cycle(exec)]
 fn execute_tuples<K: Keeper, L: Ledger>(
     work: &mut Work<'_, K>,
@@ -495,7 +495,7 @@ fn execute_tuples<K: Keeper, L: Ledger>(
     Ok(())
 }
 
-// The body with the binders bound to the tuple, wherever that holds too.
+// Runs the body with the binders bound to the tuple, wherever the tuple's guard holds too.
 #[cycle(exec)]
 fn execute_tuple<K: Keeper, L: Ledger>(
     work: &mut Work<'_, K>,
@@ -535,7 +535,7 @@ fn execute_tuple<K: Keeper, L: Ledger>(
     }
 }
 
-// The body with the binders bound to these records, in the loop around them.
+// Runs the body with the binders bound to these records, in the loop around them.
 #[cycle(exec)]
 fn execute_bound<K: Keeper, L: Ledger>(
     work: &mut Work<'_, K>,
@@ -570,7 +570,8 @@ fn execute_bound<K: Keeper, L: Ledger>(
     Ok(())
 }
 
-// A new record, and the body with the name bound to it; nothing where no model has the name.
+// Creates a record, and runs the body with the name bound to it. Does nothing if no model has the
+// name.
 #[cycle(exec)]
 fn execute_create<K: Keeper, L: Ledger>(
     work: &mut Work<'_, K>,
@@ -602,7 +603,7 @@ fn execute_create<K: Keeper, L: Ledger>(
     Ok(())
 }
 
-// A new record of this model, and the body with the name bound to it.
+// Creates a record of this model, and runs the body with the name bound to it.
 #[cycle(exec)]
 fn execute_made<K: Keeper, L: Ledger>(
     work: &mut Work<'_, K>,
@@ -651,7 +652,7 @@ fn execute_made<K: Keeper, L: Ledger>(
     Ok(())
 }
 
-// Changes the record that the value refers to; nothing where no model has the name.
+// Updates the record that the value refers to. Does nothing if no model has the name.
 fn execute_update<K: Keeper, L: Ledger>(
     work: &mut Work<'_, K>,
     here: &FacetedContext<'_>,
@@ -681,7 +682,7 @@ fn execute_update<K: Keeper, L: Ledger>(
     Ok(())
 }
 
-// Takes the record away that the value refers to; nothing where no model has the name.
+// Deletes the record that the value refers to. Does nothing if no model has the name.
 fn execute_delete<K: Keeper, L: Ledger>(
     work: &mut Work<'_, K>,
     here: &FacetedContext<'_>,
@@ -709,7 +710,7 @@ fn execute_delete<K: Keeper, L: Ledger>(
     Ok(())
 }
 
-// The number of the model of this name.
+// The number of the model with this name.
 fn model_number(app: &App, name: &Txt) -> Option<u8>
     ensures place { result ≡ model_place (application_of app.now).models name.now }
     ensures within { IfSome result (λ m. m < length app.now.models) }

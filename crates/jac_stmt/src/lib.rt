@@ -1,5 +1,5 @@
-//! Statements over faceted rows, under a path condition, for all assignments at once; and the page
-//! of their pieces.
+//! Runs the statements of a `POST` over guarded rows, under a path condition, for all assignments
+//! at once.
 #![tactic(auto)]
 
 mod assignments;

@@ -11,7 +11,7 @@ use jac_expr::Ctx;
 use jac_lang::App;
 use jac_value::{Id, Ids, id_of, is_narrow_id, loop_id_of};
 
-/// The context of a loop's body, at the records of an answer.
+/// The context of a loop's body, for the records of a tuple.
 pub(crate) fn looped(ctx: &Ctx, ids: &Ids) -> Ctx
     ensures { result ≡ record ctx.now { around = loop_of ids.now } }
 {
@@ -21,7 +21,7 @@ pub(crate) fn looped(ctx: &Ctx, ids: &Ids) -> Ctx
     }
 }
 
-// The record of a loop's answer: that of its one binder.
+// The record of a loop's tuple, if the loop has only one binder.
 fn loop_of(ids: &Ids) -> Option<Id>
     ensures { result ≡ loop_of ids.now }
 {
@@ -31,7 +31,7 @@ fn loop_of(ids: &Ids) -> Option<Id>
     }
 }
 
-/// The id of the record that the create at this site makes.
+/// The id of the record that the `create` at this site makes.
 pub(crate) fn new_id(app: &App, ctx: &Ctx, model: u8, site: u8) -> Id
     requires numbered { 0 < ctx.now.number }
     requires in_range { ctx.now.number < 2 ^ 40 }
@@ -48,7 +48,8 @@ pub(crate) fn new_id(app: &App, ctx: &Ctx, model: u8, site: u8) -> Id
     around(nested, ctx.around, base)
 }
 
-// Around the loop's record, where the model is nested and that record was made outside of loops.
+// The id around the loop's record, if the model is nested and that record was made outside of
+// loops. Otherwise the id itself.
 fn around(nested: bool, outer: Option<Id>, base: Id) -> Id
     requires { is_narrow base ≡ true }
     ensures { result ≡ around_id nested outer base }

@@ -6,7 +6,7 @@ use jac_world::Guard;
 use std::alloc::Global;
 use std::marker::Model;
 
-/// The pieces of a page, each with the guard under which it stands there.
+/// The pieces of a page, each with the guard under which it is on the page.
 #[derive(Drop)]
 pub struct Out {
     items: Vec<(Guard, Piece)>,

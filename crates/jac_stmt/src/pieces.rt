@@ -62,7 +62,7 @@ fn add_leaf(
     Ok(())
 }
 
-/// Adds that the page isn't there, wherever the path condition holds.
+/// Makes the page a missing one, wherever the path condition holds.
 pub(crate) fn add_missing(alloc: Global, out: &mut Out, pc: &Guard) -> Result<(), Memory>
     ensures { OnOk result ((w : ℕ → Bool) → leaves_seen w out.new ≡ leaves_seen w out.old
         ++ (if holds w pc.now
