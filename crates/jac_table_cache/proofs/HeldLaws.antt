@@ -1,4 +1,4 @@
--- What keeps the tables that are held those of the keeper's state.
+-- The held tables remain the tables of the keeper's state.
 use Rattle.std.proofs.Common.{◌≡◌, ◌≢◌, ◌==◌, ◌<◌, ◌≤◌, ◌+◌, ℕ, Bool, true, false, not, nat_lt, nat_le, IsTrue, IfSome, List, length, take, drop, Option, Some, None, refl, sym, ◌∙◌, ap, subst, arith, inl, inr}
 use Rattle.std.proofs.lemmas.Bool.{cases_lt}
 use Rattle.std.proofs.lemmas.Option.{slice_get_past}
@@ -31,7 +31,7 @@ table_after old new change m before rows tables sound same after =
           ∙ sym (ap (λ (s : State). rows_of s.tables m) same);
     }
 
--- what is held after the alterations of a change that was applied
+-- After a change is applied, the held tables are again those of the keeper's state.
 pub held_after : (old new : KeeperSeen) (change : Change) (before after : List (Option (List Row))) → AreHeld old before
     → ((m : ℕ) → IsLater m change.changed (held m before) (held m after)) → (IsTrue new.tells → IsTrue old.tells) → (IsTrue new.tells → IsSound new.state)
     → (IsTrue new.tells → new.state ≡ changed_state change old.state) → AreHeld new after
@@ -40,7 +40,7 @@ held_after old new change before after are later told_before good exact = record
       table_after old.state new.state change m (held m before) rows (are.shown (told_before told) m) (good told) (exact told) ((later m).left rows is);
 }
 
--- a table of which no record is altered is as before
+-- A table without altered records stays as it is.
 pub later_same : (m : ℕ) (changed : List Alteration) (table : Option (List Row)) → alters m changed ≡ false → IsLater m changed table table
 later_same m changed table none = record {
   left = λ rows is. record {
@@ -51,7 +51,7 @@ later_same m changed table none = record {
   };
 }
 
--- the table that was altered, or is no longer held
+-- A table may be replaced by the altered table or by none.
 pub later_put : (m : ℕ) (changed : List Alteration) (before put : Option (List Row)) → IfSome put (IsAfter m changed before) → IsLater m changed before put
 later_put m changed before None after = record { left = λ rows is. absurd cc }
 later_put m changed before (Some one) after = record {
@@ -67,18 +67,18 @@ apart_if at m changed hit none true e =
     let same : at ≡ m = grind (arith, e) in
     untrue (at == m) (sym hit ∙ ap (λ k. alters k changed) same ∙ none)
 
--- a place that is altered is no place that isn't
+-- An altered place differs from each place that isn't altered.
 pub apart_from : (at m : ℕ) (changed : List Alteration) → alters at changed ≡ true → alters m changed ≡ false → (at == m) ≡ false
 apart_from at m changed hit none = apart_if at m changed hit none (at == m) refl
 
--- beyond all places none is held
+-- No table is held past the last place.
 pub none_held : (m : ℕ) (tables : List (Option (List Row))) → length tables ≤ m → held m tables ≡ None
 none_held m tables past = rw (slice_get_past tables m past) refl
 
 pub later_none : (m : ℕ) (changed : List Alteration) (before after : Option (List Row)) → after ≡ before → before ≡ None → IsLater m changed before after
 later_none m changed before after same none = record { left = λ rows is. absurd cc }
 
--- what one step alters
+-- One step alters the table at its place and no other.
 pub later_step : (at m : ℕ) (changed : List Alteration) (first before after : Option (List Row)) → m < at + 1
     → (m < at → IsLater m changed first before) → (at ≤ m → before ≡ first) → (at ≡ m → IsLater m changed before after) → ((at == m) ≡ false → after ≡ before)
     → IsLater m changed first after
@@ -90,7 +90,7 @@ later_step at m changed first before after within done left here other = elim (c
       subst (λ (t : Option (List Row)). IsLater m changed t after) (left past) (here same))
 ]
 
--- a record's alternatives, by two bisections
+-- Two bisections find a record's alternatives.
 pub own_found : (id start count : ℕ) (rows from : List Row) → from ≡ drop start rows
     → drop start rows ≡ with_id (λ i. not (nat_lt i id)) rows → (AreOrdered from → take count from ≡ with_id (λ i. nat_le i id) from)
     → AreOrdered rows → take count from ≡ alternatives id rows
@@ -100,11 +100,11 @@ own_found id start count rows from is high low ordered =
     ∙ ap (with_id (λ i. nat_le i id)) greater
     ∙ own_through id rows
 
--- the rows of a table are by rising id
+-- The rows of a table are ordered by rising id.
 table_ordered : (s : State) (model : ℕ) (rows : List Row) → IsTableIn s model rows → AreOrdered rows
 table_ordered s model rows table = subst AreOrdered (sym table.same) (ordered_if_rising (rows_of s.tables model) (rows_of_sound s model table.sound))
 
--- a record's alternatives in the table that is held are those in the state
+-- A record's alternatives in the held table are those in the state.
 pub one_held : (seen : KeeperSeen) (tables : List (Option (List Row))) (id model : ℕ) (rows own : List Row) → AreHeld seen tables
     → Some rows ≡ held model tables → model ≡ model_of_id id → (AreOrdered rows → own ≡ alternatives id rows)
     → IsTrue seen.tells → own ≡ alternatives id (rows_of seen.state.tables (model_of_id id))

@@ -1,4 +1,4 @@
--- What keeps the indexes those of the tables that are held.
+-- The indexes remain indexes of the held tables.
 use Rattle.std.proofs.Common.{◌≡◌, ℕ, zero, suc, ◌==◌, Bool, true, false, if◌then◌else◌, List, [], ◌∷◌, Option, Some, None, IfSome, Result, Ok, Err, OnOk, OnErr, refl, sym, ap, ◌∙◌, subst}
 use Rattle.std.proofs.lemmas.Bool.Decides.{Decides-eqb}
 use Rattle.jac_value.specs.declared.memory.Memory.{Memory}
@@ -13,7 +13,7 @@ use Rattle.jac_keep.specs.Records.{AreOrdered, are_in_order}
 use Rattle.jac_keep.proofs.OrderLaws.{ordered_if_tested}
 use Rattle.jac_table_cache.specs.Held.{held, rows_held, IsAfter, IsHolding, IsLater}
 
--- the tables that are held, and none for each other model
+-- The rows of each held table, and no rows for each other model.
 abbrev pub all_held : List (Option (List Row)) → List (List Row)
 all_held [] = []
 all_held (t ∷ ts) = rows_or_none t ∷ all_held ts
@@ -33,7 +33,7 @@ is_holding tables old new holding right = record {
   indexed = λ m x is. subst (λ (rows : List Row). IsIndexOf rows x) (rows_of_all tables m) (right m x is);
 }
 
--- none is held
+-- If no table is held.
 pub holding_none : (indexes : TableIndexes) → ((tables : List (List Row)) → AreIndexesOf tables indexes) → IsHolding [] indexes
 holding_none indexes right = record {
   ordered = λ m. subst AreOrdered (rows_of_all [] m) (none m);
@@ -44,7 +44,7 @@ holding_none indexes right = record {
     none zero = tt
     none (suc m) = tt
 
--- a table that was altered has its index altered, or none
+-- If the table isn't held afterwards, an index that is left is of a table that wasn't altered.
 indexed_none : (b : Bool) (before after : Option (List Row)) (old mid : Option TableIndex) (x : TableIndex) → (b ≡ false → after ≡ before) → (b ≡ false → mid ≡ old)
     → (old ≡ Some x → IsIndexOf (rows_or_none before) x) → (if b then None else mid) ≡ Some x → IsIndexOf (rows_or_none after) x
 indexed_none true before after old mid x same kept indexed is = absurd cc
@@ -73,7 +73,8 @@ module _ (changed : List Alteration) (before after : List (Option (List Row))) (
     indexed = λ m x is. indexed_after m x (held m after) refl is;
   }
 
--- what is forgotten of a table that is held, and of one that isn't
+-- Dropping the index of a model that isn't held changes no index of a held model. For a held model
+-- nothing is dropped.
 pub gone_held : (model m : ℕ) (tables : List (Option (List Row))) (rows : List Row) (found : Option TableIndex) → held model tables ≡ Some rows → held m tables ≡ None
     → found ≡ (if model == m then None else found)
 gone_held model m tables rows found is none = by_case (model == m) refl
@@ -100,14 +101,14 @@ same_held model m tables rows before after none is left = by_case (model == m) r
         clash bad = absurd cc
     by_case false e gone = gone
 
--- what is held is by rising id after a step too
+-- After a step the held rows are still ordered by rising id.
 pub ordered_step : (b : Bool) (put table : Option (List Row)) → IfSome put AreOrdered → AreOrdered (rows_or_none table)
     → AreOrdered (rows_or_none (if b then put else (if b then None else table)))
 ordered_step true None table put old = tt
 ordered_step true (Some rows) table put old = put
 ordered_step false put table ordered old = old
 
--- one more table, whose model has no index then
+-- One more table is held, and its model has no index.
 ordered_put : (b : Bool) (rows : List Row) (table : Option (List Row)) → AreOrdered rows → AreOrdered (rows_or_none table)
     → AreOrdered (rows_or_none (if b then Some rows else table))
 ordered_put true rows table new old = new

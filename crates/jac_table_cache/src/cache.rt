@@ -21,9 +21,10 @@ use jac_value::{Id, Txt, Value, id_model};
 use std::alloc::Global;
 use std::marker::Model;
 
-/// A keeper, and the tables of it that were read. A table that is held is read there, and so are
-/// its records; a change that is applied is made there too. After a fault of the keeper nothing is
-/// held: no table, and no record in an index, since each index is of the rows that are held.
+/// A keeper, and the tables that were read from it. Held tables and their records are read from
+/// memory. A change that is applied to the keeper is made in the held tables too. After a fault of
+/// the keeper nothing is held: no table, and no record in an index, because each index is over held
+/// rows.
 #[derive(Drop)]
 pub struct TableCache<K: Keeper> {
     alloc: Global,
@@ -54,14 +55,15 @@ impl<K: Keeper> TableCache<K> {
         }
     }
 
-    /// The keeper within.
+    /// The underlying keeper.
     pub fn keeper(&self) -> &K
         ensures { result.now ≡ self.now.keeper }
     {
         &self.keeper
     }
 
-    // Why the keeper stopped a call. Where it failed, everything that was held is dropped.
+    // The reason why the keeper stopped a call. If the keeper failed, everything that was held is
+    // dropped.
     fn stopped(&mut self, stop: Stop) -> Stop
         ensures same { result ≡ stop }
         ensures same_keeper { self.new.keeper ≡ self.old.keeper }
@@ -74,7 +76,7 @@ impl<K: Keeper> TableCache<K> {
         stop
     }
 
-    // The table, read from the keeper.
+    // Reads the table from the keeper.
     fn read(&mut self, alloc: Global, model: u8) -> Result<Rows, Stop>
         requires { IsTrue (K.seen self.old.keeper).store.attached }
         ensures exact { IsTrue (K.seen self.new.keeper).tells
@@ -149,7 +151,7 @@ impl<K: Keeper> TableCache<K> {
         }
     }
 
-    /// Where the alternatives of one record stand, if they are at hand.
+    /// The place of the alternatives of one record, if they are in memory.
     pub fn find(&mut self, id: Id) -> Result<Option<Place>, Stop>
         requires { IsTrue (K.seen self.old.keeper).store.attached }
         ensures looks { Looks (K.seen self.old.keeper) (K.seen self.new.keeper) result }
@@ -165,7 +167,7 @@ impl<K: Keeper> TableCache<K> {
         }
     }
 
-    /// The alternatives of one record, lent, if they are at hand.
+    /// The alternatives of one record, borrowed, if they are in memory.
     pub fn held(&self, id: Id, near: Place) -> Option<&[Row]>
         ensures { IfSome result (λ rows. IsTrue (K.seen self.now.keeper).tells
             → rows.now ≡ alternatives id (rows_of (K.seen self.now.keeper).state.tables
@@ -177,8 +179,8 @@ impl<K: Keeper> TableCache<K> {
         }
     }
 
-    /// Whether the rows of the model are at hand now. It reads the whole table where that isn't
-    /// held, and holds it then.
+    /// Whether the rows of the model are in memory after the call. If the table isn't held, this
+    /// reads the whole table and holds it.
     pub fn find_rows(&mut self, alloc: Global, model: u8) -> Result<bool, Stop>
         requires { IsTrue (K.seen self.old.keeper).store.attached }
         ensures looks { Looks (K.seen self.old.keeper) (K.seen self.new.keeper) result }
@@ -193,7 +195,7 @@ impl<K: Keeper> TableCache<K> {
         Ok(self.tables.holds(model))
     }
 
-    /// All rows of the model, by rising id, lent, if they are at hand.
+    /// All rows of the model, by rising id, borrowed, if they are in memory.
     pub fn held_rows(&self, model: u8) -> Option<&[Row]>
         ensures { IfSome result (λ rows. IsTrue (K.seen self.now.keeper).tells
             → rows.now ≡ rows_of (K.seen self.now.keeper).state.tables model) }
@@ -204,9 +206,9 @@ impl<K: Keeper> TableCache<K> {
         }
     }
 
-    /// All alternatives of each record of the model of which one has the value at the field. It
-    /// reads the whole table where that isn't held, and holds it then. A table that is held is
-    /// asked by an index.
+    /// All alternatives of each record of the model that has an alternative with the value at the
+    /// field. If the table isn't held, this reads the whole table and holds it. A held table is
+    /// searched by an index.
     pub fn rows_with(
         &mut self,
         alloc: Global,

@@ -14,7 +14,7 @@ use jac_value::{Memory, Value};
 use std::alloc::Global;
 use std::marker::Model;
 
-/// The rows of the models whose tables are held, and the indexes of the fields that were asked for.
+/// The rows of the models whose tables are held, and the indexes of the fields that were queried.
 #[derive(Drop)]
 pub struct HeldTables {
     tables: Vec<Option<Rows>>,
@@ -57,8 +57,8 @@ impl HeldTables {
         self.find(model).is_some()
     }
 
-    /// All alternatives of each record of which one has the value at the field, if the model's
-    /// table is held. The first question for a field makes its index.
+    /// All alternatives of each record that has an alternative with the value at the field, if the
+    /// model's table is held. The first query of a field makes its index.
     pub fn find_with(
         &mut self,
         alloc: Global,
@@ -88,8 +88,8 @@ impl HeldTables {
         }
     }
 
-    /// The tables that are held as they are after the alterations, and their indexes with them. An
-    /// altered one is held no longer where it was empty, or where memory lacks.
+    /// Applies the alterations to the held tables and their indexes. An altered table is dropped if
+    /// it was empty, or if memory runs out.
     pub fn alter(&mut self, alloc: Global, changed: &Alterations)
         ensures { (m : ℕ) → IsLater m changed.now (held m self.old) (held m self.new) }
     {
@@ -203,7 +203,7 @@ fn alter_at(alloc: Global, tables: &mut Vec<Option<Rows>>, at: usize, changed: &
     }
 }
 
-// Alters the table at this place, of which a record is altered.
+// Alters the table at this place. At least one of its records is altered.
 fn renew_at(alloc: Global, tables: &mut Vec<Option<Rows>>, at: usize, changed: &Alterations)
     requires within { at < length tables.old.items }
     requires hit { alters at changed.now ≡ true }
@@ -232,7 +232,7 @@ fn take_at(tables: &mut Vec<Option<Rows>>, at: usize) -> Option<Rows>
     tables[at].take()
 }
 
-// The table after the alterations, if it wasn't empty and there is memory.
+// The table after the alterations, unless it was empty or memory ran out.
 fn altered_table(
     alloc: Global,
     table: Option<Rows>,
@@ -273,7 +273,7 @@ fn in_order(rows: Rows) -> Option<Rows>
     }
 }
 
-// Makes the place of a model, where none is held yet.
+// Makes room for the table of a model. The added places hold no tables.
 fn make_room(tables: &mut Vec<Option<Rows>>, at: usize) -> Result<(), Memory>
     ensures room { OnOk result (at < length tables.new.items) }
     ensures same { (m : ℕ) → held m tables.new.items ≡ held m tables.old.items }

@@ -1,4 +1,4 @@
-//! The indexes of the tables that are held, as these are altered.
+//! The indexes of the held tables, kept up to date with them.
 ghost use Rattle.std.specs.Prelude.{◌≡◌, ◌==◌, ℕ, List, false, Some, None, if◌then◌else◌};
 ghost use Rattle.std.specs.Option.{option_copied};
 ghost use Rattle.jac_value.specs.Ids.{model_of_id};
@@ -26,7 +26,7 @@ pub fn table_of(tables: &[Option<Rows>], model: u8) -> Option<&Rows>
     }
 }
 
-// Its rows, or none where it isn't held.
+// The rows of the model, or none if its table isn't held.
 fn rows_at(tables: &[Option<Rows>], model: u8) -> &[Row]
     ensures { result.now ≡ rows_held model tables.now }
 {
@@ -36,7 +36,7 @@ fn rows_at(tables: &[Option<Rows>], model: u8) -> &[Row]
     }
 }
 
-/// Alters the indexes of the tables, which are those before the alterations.
+/// Alters the indexes. `tables` are the tables before the alterations.
 pub fn alter_indexes(
     alloc: Global,
     tables: &[Option<Rows>],
@@ -70,7 +70,7 @@ fn alter_index(
     let _ = indexes.alter_one(alloc, rows, alteration);
 }
 
-/// The indexes of altered tables that are held no longer are gone. It takes no memory.
+/// Drops the index of each altered table that isn't held. It takes no memory.
 pub fn forget_dropped(tables: &[Option<Rows>], indexes: &mut TableIndexes, changed: &[Alteration])
     ensures gone { (m : ℕ) → held m tables.now ≡ None → index_at m indexes.new
         ≡ (if alters m changed.now then None else index_at m indexes.old) }

@@ -18,8 +18,8 @@ use jac_value::{Id, Txt, Value};
 use std::alloc::Global;
 use std::marker::Model;
 
-/// A keeper over another one, seen as that one: each of its calls is the one of its `TableCache`,
-/// whose clauses also say when a table is held.
+/// A keeper over another keeper. Contracts see it as that keeper. Each call is the call of its
+/// `TableCache`, where the contracts also say when a table is held.
 #[derive(Drop)]
 pub struct CachedKeeper<K: Keeper> {
     cache: TableCache<K>,
@@ -41,7 +41,7 @@ impl<K: Keeper> CachedKeeper<K> {
         }
     }
 
-    /// The keeper within.
+    /// The underlying keeper.
     pub fn keeper(&self) -> &K
         ensures { result.now ≡ self.now }
     {

@@ -1,5 +1,4 @@
-//! A keeper over another one, which holds the tables that were read, and makes each change there
-//! too.
+//! A keeper that caches the tables of another keeper. It answers as the other would.
 #![tactic(auto)]
 
 mod cache;

@@ -7,7 +7,7 @@ use jac_rows::{Row, Rows};
 use jac_value::{Id, Memory};
 use std::alloc::Global;
 
-/// Copies of the record's alternatives, of rows by rising id.
+/// Copies of the record's alternatives, from rows in order of rising id.
 pub fn own_rows(alloc: Global, rows: &[Row], id: Id) -> Result<Rows, Memory>
     ensures { AreOrdered rows.now → IfOk result (λ r. r ≡ alternatives id rows.now) }
 {

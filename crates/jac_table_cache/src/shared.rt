@@ -1,12 +1,12 @@
-//! Rows whose copies share what they hold.
+//! Rows that share their guards and cells with their copies.
 ghost use Rattle.std.specs.Prelude.{◌≡◌, ◌<◌, length, IfOk, OnOk};
 
 use jac_rows::{Row, Rows};
 use jac_value::Memory;
 use std::alloc::Global;
 
-/// The same rows, whose copies share their guards and cells with them. Each row is copied in its
-/// place, so that it takes the memory of one row more.
+/// The same rows, which share their guards and cells with their copies. The rows are copied one by
+/// one in place, so this takes the memory of one additional row.
 pub fn shared_rows(alloc: Global, rows: Rows) -> Result<Rows, Memory>
     ensures { IfOk result (λ shared. shared ≡ rows) }
 {

@@ -4,7 +4,7 @@ use Rattle.jac_keep.specs.Records.{AreOrdered}
 use Rattle.jac_table_cache.specs.Held.{held, rows_held, IsLater}
 use Rattle.jac_table_cache.proofs.held.alter_each.Given as goal
 
--- the tables before this place are altered, and the others as they were
+-- The tables before this place are altered, and the others are unchanged.
 abbrev pub invariant-tables : goal.invariant-tables
 invariant-tables l =
     record {
