@@ -8,8 +8,8 @@ use Rattle.jac_template.specs.Applications.{ExpandsStatement, ExpandsBody, Expan
 use Rattle.jac_template.specs.Faults.{Fault}
 use Rattle.jac_lang.specs.Untemplated.{are_untemplated, are_untemplated_views}
 
--- what the statements `left` expand to, after those so far, all expand to; those so far are turned
--- round
+-- All statements expand to those so far followed by the expansion of `left`. Those so far are in
+-- reverse order.
 pub record BodyLeads (all so_far left : Statements) : Type 0 where
   pub written : (out : Statements) → ExpandsBody left out → ExpandsBody all (body_onto so_far out)
   pub faulty : (f : Fault) → BodyFault left f → BodyFault all f
@@ -32,12 +32,12 @@ body_fault all so_far left rest first f parts h leads = leads.faulty f (subst (�
 pub body_whole : (all so_far left : Statements) → left ≡ Statements.none → BodyLeads all so_far left → ExpandsBody all (body_onto so_far Statements.none)
 body_whole all so_far left end leads = leads.written Statements.none (subst (λ (l : Statements). ExpandsBody l Statements.none) (sym end) refl)
 
--- one more view
+-- One more view is appended.
 pub pages_of-push : (views : List View) (v : View) → pages_of (views ++ v ∷ []) ≡ pages_of views ++ page_of_view v ∷ []
 pages_of-push [] v = refl
 pages_of-push (w ∷ views) v = ap (λ (ps : List Page). page_of_view w ∷ ps) (pages_of-push views v)
 
--- the same of views
+-- The same for views.
 pub record ViewsLead (all so_far left : List Page) (number : ℕ) : Type 0 where
   pub written : (out : List Page) → ExpandsViews left out → ExpandsViews all (so_far ++ out)
   pub faulty : (view : ℕ) (f : Fault) → ViewsFault number left view f → ViewsFault 0 all view f

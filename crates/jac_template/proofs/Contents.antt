@@ -1,4 +1,4 @@
--- The fault that the reader of trees answers is one of the bytes.
+-- The fault that the reader of trees returns is a fault of the bytes.
 use Rattle.std.proofs.Common.{◌≡◌, ◌↔◌, ◌<◌, ◌≤◌, ℕ, Bool, true, false, List, length, Result, Ok, Err, IsErrOf, refl, sym, ◌∙◌, ap, arith}
 use Rattle.std.specs.Str.{IsUtf8, IsValidUpTo, is_utf8}
 use Rattle.std.proofs.lemmas.Str.{is_utf8-from_IsUtf8, IsUtf8-from_is_utf8}

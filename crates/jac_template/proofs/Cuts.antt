@@ -6,7 +6,7 @@ use Rattle.jac_template.specs.Tags.{Meaning, MeansAs, MeansTag}
 use Rattle.jac_template.specs.declared.pieces.Kind.{Kind}
 use Rattle.jac_template.specs.declared.pieces.Kind.TheVariants as kinds
 
--- the bytes of the piece before are passed over
+-- The bytes of the previous piece are skipped.
 passed : (skip place : ℕ) (bytes : List ℕ) → pieces_from place skip bytes ≡ pieces_from (place + skip) 0 (drop skip bytes)
 passed zero place bytes = ap (λ (n : ℕ). pieces_from n 0 bytes) (omega arith)
 passed (suc skip) place [] = refl
@@ -18,7 +18,7 @@ behind_first place (suc k) b bytes some =
     let e : suc k - 1 ≡ k = omega arith in
     rw e (passed k (place + 1) bytes ∙ ap (λ (n : ℕ). pieces_from n 0 (drop k bytes)) (omega arith))
 
--- a piece has a byte
+-- Each piece has at least one byte.
 tag_sized : (kind : Kind) (inside : List ℕ) (found : Option ℕ) → 0 < (tag_cut kind inside found).size
 tag_sized kind inside (Some n) = omega arith
 tag_sized kind inside None = omega arith
@@ -34,12 +34,12 @@ sized b bytes = either (begins_with 123 123 (b ∷ bytes)) (begins_with 123 37 (
     either false true e k = tag_sized kinds.Control (drop 2 (b ∷ bytes)) (content_length 37 (drop 2 (b ∷ bytes)))
     either false false e k = rw (e, k) (omega arith)
 
--- fewer bytes are left after the first piece
+-- Fewer bytes are left after the first piece.
 pub shorter : (left rest : List ℕ) → 0 < length left → length rest + (first_cut left).size ≡ length left → length rest < length left
 shorter [] rest some size = absurd (omega arith)
 shorter (b ∷ left) rest some size = let n = sized b left in omega (arith, n, size)
 
--- the first piece, and those of the bytes that follow it
+-- The first piece, and those of the bytes that follow it.
 pub first_piece : (place : ℕ) (left rest : List ℕ) → 0 < length left → rest ≡ drop (first_cut left).size left → length rest + (first_cut left).size ≡ length left
     → pieces_from place 0 left ≡ piece place (first_cut left) ∷ pieces_from (place + (length left - length rest)) 0 rest
 first_piece place [] rest some behind size = absurd (omega arith)
@@ -50,13 +50,13 @@ first_piece place (b ∷ left) rest some behind size =
     ∙ ap (λ (n : ℕ). pieces_from n 0 (drop (first_cut (b ∷ left)).size (b ∷ left))) there
     ∙ ap (λ (r : List ℕ). pieces_from (place + (length (b ∷ left) - length rest)) 0 r) (sym behind))
 
--- what a piece means is what its kind and content mean
+-- The meaning of a piece is that of its kind and content.
 pub means_piece : (place : ℕ) (kind : Kind) (content : List ℕ) (c : Cut) (m : Meaning) → kind ≡ c.kind → content ≡ c.content → MeansAs kind place content m
     → MeansTag (piece place c) m
 means_piece place kind content c m k e h =
     subst (λ (z : Kind). MeansAs z place c.content m) k (subst (λ (z : List ℕ). MeansAs kind place z m) e h)
 
--- the bytes after a tag, counted from its content or from its first byte
+-- The bytes after a tag, counted from its content or from its first byte.
 drop_two : (n : ℕ) (bytes : List ℕ) → drop n (drop 2 bytes) ≡ drop (2 + n) bytes
 drop_two n bytes = drop-drop n 2 bytes
 

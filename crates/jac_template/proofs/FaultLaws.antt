@@ -9,7 +9,7 @@ use Rattle.jac_tree.specs.Plain.{PlainTree, nesting}
 use Rattle.jac_tree.specs.declared.fault.TreeFault.{TreeFault}
 use Rattle.jac_tree.specs.declared.fault.TreeFault.TheVariants as faults
 
--- fewer bytes go on with what more bytes begin with
+-- If a longer prefix can be continued, so can a shorter one.
 front : (b a : ℕ) (bytes rest : List ℕ) → b ≤ a → (more : List ℕ) × (take b bytes ++ more ≡ take a bytes ++ rest)
 front zero a bytes rest less = (take a bytes ++ rest, refl)
 front (suc b) zero bytes rest less = absurd (omega arith)
@@ -22,7 +22,7 @@ sooner n b a bytes less (rest, t, spelled, shallow) =
     let (more, e) = front b a bytes rest less in
     (more, t, subst (λ (z : List ℕ). Spells z t) (sym e) spelled, shallow)
 
--- what bytes begin that spell a tree
+-- Each prefix of bytes that spell a tree begins a document.
 of_spelled : (bytes : List ℕ) (t : PlainTree) (b : ℕ) → Spells bytes t → nesting t ≤ 64 → IsBegunWithin 64 (take b bytes)
 of_spelled bytes t b spelled shallow =
     sooner_whole (cases_lt b (length bytes))
@@ -44,7 +44,7 @@ no_valid_front : (bytes : List ℕ) (at : ℕ) → IsUtf8 bytes → IsValidUpTo 
 no_valid_front bytes at text valid =
     valid.longest (length bytes) valid.short (subst IsUtf8 (sym (take_all (length bytes) bytes (omega arith))) text)
 
--- an accepted tree leaves no fault
+-- Bytes that are accepted as a tree have no fault.
 pub no_fault : (bytes : List ℕ) (t : PlainTree) (f : TreeFault) → Accepted bytes t → IsFaultOf bytes f → ⊥
 no_fault bytes t faults.Long a h = omega (arith, a.short, h)
 no_fault bytes t (faults.NotUtf8 at) a (short, valid) = no_valid_front bytes at a.utf8 valid
@@ -53,7 +53,7 @@ no_fault bytes t (faults.Deep at) a (short, deep) = deep.deeper (of_spelled byte
 no_fault bytes t (faults.Unclosed at) a (short, unclosed) = unclosed.none t a.spelled
 no_fault bytes t faults.Memory a h = h
 
--- where documents of at most 64 levels stop
+-- The place from which no document of at most 64 levels continues.
 record StopsAt (bytes : List ℕ) (at : ℕ) : Type 0 where
   pub before : IsBegunWithin 64 (take at bytes)
   pub after : at < length bytes → ¬ (IsBegunWithin 64 (take (at + 1) bytes))

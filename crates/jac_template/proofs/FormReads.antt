@@ -1,4 +1,4 @@
--- No expression and no query is refused for want of memory.
+-- Reading a tree as an expression or a query never gives out of memory as its fault.
 use Rattle.std.proofs.Common.{◌≡◌, ℕ, ℤ, ◌+◌, Bool, true, false, nat_le, List, ◌∷◌, Option, Some, None, if◌then◌else◌, codes, refl}
 use Rattle.std.specs.Str.{bytes_eq}
 use Rattle.jac_forms.specs.Expressions.{number_or_name, atom_expression, binder, binder_in_tree, binders_in_trees, binders_in_tree, has_few, sort_key, key_of_sort, rising, falling, sorting_in_trees, order_in_tree, question, question_if, count_expression, sum_expression, any_expression, first_expression, none_in_trees, Operands, expression_of_form, form_of, operands_of, expression_in_tree, expression_in_list, one_in_trees, two_in_trees, pick_in_trees, get_in_trees, expressions_in_trees, query_in_trees, sum_in_trees, question_in_tree}
@@ -21,7 +21,7 @@ use Rattle.jac_tree.specs.Plain.{PlainTree, PlainTrees, count, is_word}
 use Rattle.jac_value.specs.Names.{is_name}
 use Rattle.jac_value.specs.Values.{integer_of}
 
--- a value, or a fault that isn't want of memory
+-- A value, or a fault other than out of memory.
 abbrev pub is_answer : {A : Type 0} → Read A → Bool
 is_answer (got x) = true
 is_answer (refused f) = refuses f
@@ -38,7 +38,7 @@ either_answers : {A : Type 0} (b : Bool) (x y : Read A) → is_answer x ≡ true
 either_answers true x y h k = h
 either_answers false x y h k = k
 
--- names
+-- Names.
 read_answers : (want : Want) (at a : List ℕ) → is_answer (name_read want at a) ≡ true
 read_answers want at a = either_answers (is_name a) (got a) (wrong want at) refl refl
 
@@ -47,7 +47,7 @@ name_answers at (PlainTree.atom a) = read_answers wants.Name at a
 name_answers at (PlainTree.text x) = refl
 name_answers at (PlainTree.list ts) = refl
 
--- atoms
+-- Atoms.
 number_answers : (at a : List ℕ) (i : Option ℤ) → is_answer (number_or_name at a i) ≡ true
 number_answers at a (Some i) = refl
 number_answers at a None = map_answers Expression.name (name_read wants.Expression at a) (read_answers wants.Expression at a)
@@ -65,7 +65,7 @@ atom_answers at a =
     word false false false true = refl
     word false false false false = number_answers at a (integer_of a)
 
--- binders
+-- Binders.
 binder_answers : (at : List ℕ) (t : PlainTree) → is_answer (binder_in_tree at t) ≡ true
 binder_answers at (PlainTree.atom a) = refl
 binder_answers at (PlainTree.text x) = refl
@@ -92,7 +92,7 @@ binders_answer most at (PlainTree.list ts) =
     either_answers (nat_le (count ts) 0) (wrong wants.Binder at) (up_to whats.Binders at most (count ts) (binders_in_trees at 0 ts)) refl
     (up_to_answers whats.Binders at most (count ts) (binders_in_trees at 0 ts) (each_binder_answers at 0 ts))
 
--- orders
+-- Orders.
 key_answers : (at : List ℕ) (x f : PlainTree) → is_answer (key_of_sort at x f) ≡ true
 key_answers at x f =
     then_answers (λ name. read_map (sort_key name) (name_in_tree (child at 2) f)) (name_in_tree (child at 1) x) (name_answers (child at 1) x)
@@ -121,7 +121,7 @@ question_answers bs c o h k l =
     then_answers (λ binders. read_and_then (λ cond. read_map (question binders cond) o) c) bs h
     (λ binders. then_answers (λ cond. read_map (question binders cond) o) c k (λ cond. map_answers (question binders cond) o l))
 
--- the operands of a form
+-- The operands of a form.
 none_answers : (at : List ℕ) (ts : PlainTrees) → is_answer (none_in_trees at ts) ≡ true
 none_answers at PlainTrees.none = refl
 none_answers at (PlainTrees.more m PlainTrees.none) = map_answers Expression.none_of (name_in_tree (child at 1) m) (name_answers (child at 1) m)

@@ -12,7 +12,7 @@ open_blocks-push : (stack : List Frame) (f : Frame) → open_blocks (stack ++ f 
 open_blocks-push [] f = refl
 open_blocks-push (g ∷ stack) f = ap (λ (bs : List OpenBlock). bs ++ open_block_of g ∷ []) (open_blocks-push stack f)
 
--- the stack, where the last frame was put on it or taken off
+-- The open blocks after a frame is pushed onto the stack, or before it is popped.
 pub pushed : (all rest : List Frame) (f : Frame) → all ≡ rest ++ f ∷ [] → open_blocks all ≡ open_block_of f ∷ open_blocks rest
 pushed all rest f e = ap open_blocks e ∙ open_blocks-push rest f
 
@@ -27,7 +27,7 @@ as_many (f ∷ stack) =
     let m = length-append (open_blocks stack) (open_block_of f ∷ []) in
     omega arith
 
--- one more block inside of fewer than 64
+-- One more block is opened inside fewer than 64.
 pub opens : (place : ℕ) (opening : Opening) (stack : List Frame) (body : Statements) → length stack < 64
     → block_opened place opening (progress (open_blocks stack) body) ≡ Some (progress (open_block place opening body ∷ open_blocks stack) Statements.none)
 opens place opening stack body few =
@@ -35,7 +35,7 @@ opens place opening stack body few =
     let test : nat_lt (length (open_blocks stack)) 64 ≡ true = grind (arith, nat_tests, n, few) in
     rw test refl
 
--- and inside of 64
+-- No block is opened inside 64.
 pub too_deep : (place : ℕ) (opening : Opening) (stack : List Frame) (body : Statements) → 64 ≤ length stack
     → block_opened place opening (progress (open_blocks stack) body) ≡ None
 too_deep place opening stack body many =
@@ -43,7 +43,7 @@ too_deep place opening stack body many =
     let test : nat_lt (length (open_blocks stack)) 64 ≡ false = grind (arith, nat_tests, n, many) in
     rw test refl
 
--- the innermost block ends
+-- The innermost block ends.
 pub closes : (all rest now : List Frame) (f : Frame) (body new : Statements) → all ≡ rest ++ f ∷ [] → now ≡ rest
     → new ≡ Statements.more (statement (opening_of f.context) (run_order body)) (statements_of f.before)
     → block_closed (open_blocks all) body ≡ Some (progress (open_blocks now) new)
@@ -52,7 +52,7 @@ closes all rest now f body new e same made = rw (pushed all rest f e, same, made
 pub no_block_closes : (stack : List Frame) (body : Statements) → length stack ≡ 0 → block_closed (open_blocks stack) body ≡ None
 no_block_closes stack body e = rw (none_open stack e) refl
 
--- the innermost block comes to its `else`
+-- The innermost block reaches its `else`.
 pub turns : (all rest : List Frame) (f : Frame) (context : Context) (body : Statements) → all ≡ rest ++ f ∷ [] → f.context ≡ context
     → block_turned (open_blocks all) body ≡ turned_in f.place (opening_of context) (statements_of f.before) (open_blocks rest) body
 turns all rest f context body e is = rw (pushed all rest f e, is) refl
@@ -60,6 +60,6 @@ turns all rest f context body e is = rw (pushed all rest f e, is) refl
 pub no_block_turns : (stack : List Frame) (body : Statements) → length stack ≡ 0 → block_turned (open_blocks stack) body ≡ None
 no_block_turns stack body e = rw (none_open stack e) refl
 
--- the innermost block has no end
+-- The innermost block has no end.
 pub unclosed : (all rest : List Frame) (f : Frame) → all ≡ rest ++ f ∷ [] → IsUnclosed (open_blocks all) (Fault.unclosed f.place)
 unclosed all rest f e = rw (pushed all rest f e) refl

@@ -10,7 +10,8 @@ use Rattle.jac_template.specs.Pieces.{Piece}
 use Rattle.jac_template.specs.Progress.{OpenBlock, Opening, Progress, progress, open_block, block_opened, turned_in, statement, run_order, progress_after, IsUnclosed}
 use Rattle.jac_template.specs.Tags.{Mark, Meaning, MeansTag}
 
--- the pieces `from` end the block that is open, `depth` deep, whose body so far is `body`; it is the statement s, and `to` follows
+-- The pieces `from` complete the open block, which is inside `depth` blocks and has the body so far
+-- `body`. It is the statement `s`, and the pieces `to` follow.
 abbrev pub EndsAs : Opening → ℕ → Statements → List Piece → List Piece → Statement → Type 0
 EndsAs (Opening.bind x e) depth body from to s =
     (inner : Statements) × (rest : List Piece) × BodyAt inner depth from rest × MarkAt Mark.finish rest to × (s ≡ Statement.bind x e (body_onto body inner))
@@ -22,7 +23,7 @@ EndsAs (Opening.second c done) depth body from to s =
 EndsAs (Opening.each q) depth body from to s =
     (inner : Statements) × (rest : List Piece) × BodyAt inner depth from rest × MarkAt Mark.finish rest to × (s ≡ Statement.each q (body_onto body inner))
 
--- the pieces complete the template of the statements ss
+-- The pieces complete the template of the statements `ss`.
 abbrev pub Completes : List OpenBlock → Statements → List Piece → Statements → Type 0
 Completes [] body from ss = (inner : Statements) × BodyAt inner 0 from [] × (ss ≡ body_onto body inner)
 Completes (b ∷ blocks) body from ss =
@@ -32,7 +33,7 @@ abbrev CompletesIf : Option Progress → List Piece → Statements → Type 0
 CompletesIf None from ss = ⊥
 CompletesIf (Some p) from ss = Completes p.blocks p.body from ss
 
--- one more statement of the innermost body
+-- One more statement of the innermost body.
 ends_more : (opening : Opening) (depth : ℕ) (s t : Statement) (body : Statements) (from rest to : List Piece) → StatementAt s depth from rest
     → EndsAs opening depth (Statements.more s body) rest to t → EndsAs opening depth body from to t
 ends_more (Opening.bind x e) depth s t body from rest to at (inner, end, front, finish, same) = (Statements.more s inner, end, (rest, at, front), finish, same)
@@ -46,7 +47,7 @@ more_first : (blocks : List OpenBlock) (s : Statement) (body ss : Statements) (f
 more_first [] s body ss from rest at (inner, front, same) = (Statements.more s inner, (rest, at, front), same)
 more_first (b ∷ blocks) s body ss from rest at (t, to, ends, more) = (t, to, ends_more b.opening (length (b ∷ blocks)) s t body from rest to at ends, more)
 
--- a block that has begun is a statement
+-- The mark opens a block with this body. Below: if the block ends, it is a statement.
 abbrev pub opens_with : Opening → Mark → Type 0
 opens_with (Opening.bind x e) m = m ≡ Mark.bind x e
 opens_with (Opening.first c) m = m ≡ Mark.branch c
@@ -68,7 +69,7 @@ opened_first : (place : ℕ) (opening : Opening) (m : Mark) (blocks : List OpenB
 opened_first place opening m blocks body ss from inside is few at (s, to, ends, more) =
     more_first blocks s body ss from to (begun opening (length blocks) m s from inside to is few at ends) more
 
--- the second body of an `if` has begun
+-- An `else`, the second body and `end` complete an `if`.
 other_at : (inner : Statements) (depth : ℕ) (from inside rest to : List Piece) → MarkAt Mark.otherwise from inside → BodyAt inner depth inside rest → MarkAt Mark.finish rest to
     → OtherAt inner depth from to
 other_at Statements.none depth from inside rest to at front finish = inr (inside, at, subst (λ (r : List Piece). MarkAt Mark.finish r to) (sym front) finish)
@@ -83,7 +84,7 @@ turned_first place (Opening.first c) before blocks body ss from inside at (s, to
 turned_first place (Opening.second c done) before blocks body ss from inside at h = absurd h
 turned_first place (Opening.each q) before blocks body ss from inside at h = absurd h
 
--- a block has its end
+-- A block has its end.
 closed_as : (opening : Opening) (depth : ℕ) (body : Statements) (from to : List Piece) → MarkAt Mark.finish from to
     → EndsAs opening depth body from to (statement opening (run_order body))
 closed_as (Opening.bind x e) depth body from to at = (Statements.none, from, refl, at, refl)
@@ -91,7 +92,7 @@ closed_as (Opening.first c) depth body from to at = (Statements.none, Statements
 closed_as (Opening.second c done) depth body from to at = (Statements.none, from, refl, at, refl)
 closed_as (Opening.each q) depth body from to at = (Statements.none, from, refl, at, refl)
 
--- one mark further
+-- If the pieces after a mark complete a template, so do the pieces from the mark on.
 opened_or_deep : (few : Bool) (place : ℕ) (opening : Opening) (m : Mark) (blocks : List OpenBlock) (body ss : Statements) (from inside : List Piece)
     → nat_lt (length blocks) 64 ≡ few → opens_with opening m → MarkAt m from inside
     → CompletesIf (if few then Some (progress (open_block place opening body ∷ blocks) Statements.none) else None) inside ss → Completes blocks body from ss
@@ -116,7 +117,7 @@ completes place Mark.finish [] body ss from to at h = absurd h
 completes place Mark.finish (b ∷ blocks) body ss from to at h =
     (statement b.opening (run_order body), to, closed_as b.opening (length (b ∷ blocks)) body from to at, h)
 
--- the open blocks as the grammar sees them
+-- The open blocks as in the grammar.
 abbrev pub is_choice : Opening → Bool
 is_choice (Opening.bind x e) = false
 is_choice (Opening.first c) = true
@@ -163,7 +164,7 @@ behind_after place Mark.otherwise (b ∷ blocks) body = turned_behind b.place b.
 behind_after place Mark.finish [] body = refl
 behind_after place Mark.finish (b ∷ blocks) body = refl
 
--- what the pieces `left` lead to, after what was read, all pieces lead to
+-- What the pieces `left` expand to after those read so far is what all pieces expand to.
 pub record Leads (all : List Piece) (so_far : Progress) (left : List Piece) : Type 0 where
   pub written : (ss : Statements) → Completes so_far.blocks so_far.body left ss → BodyAt ss 0 all []
   pub faulty : (f : Fault) → FirstFault (blocks_in so_far) left f → FirstFault [] all f
@@ -187,13 +188,13 @@ leads_on all left rest p m so_far next first means taken leads = record {
       (inr (inr (m, blocks_in next, means, behind_after p.place m so_far.blocks so_far.body ∙ ap (option_map blocks_in) taken, h))));
 }
 
--- the first fault is that of this piece
+-- The first fault is that of this piece.
 pub fault_here : (all left rest : List Piece) (p : Piece) (f : Fault) (so_far : Progress) → left ≡ p ∷ rest → MeansTag p (Meaning.fault f)
     → Leads all so_far left → FirstFault [] all f
 fault_here all left rest p f so_far first means leads =
     leads.faulty f (subst (λ (ps : List Piece). FirstFault (blocks_in so_far) ps f) (sym first) (inl means))
 
--- the first fault is that this mark may not stand here
+-- The first fault is that this mark may not be here.
 pub fault_of_place : (all left rest : List Piece) (p : Piece) (m : Mark) (f : Fault) (so_far : Progress) → left ≡ p ∷ rest → MeansTag p (Meaning.mark m)
     → progress_after p.place m so_far ≡ None → f ≡ misplaced_fault p.place m → Leads all so_far left → FirstFault [] all f
 fault_of_place all left rest p m f so_far first means none is leads =
@@ -201,7 +202,7 @@ fault_of_place all left rest p m f so_far first means none is leads =
     (subst (λ (ps : List Piece). FirstFault (blocks_in so_far) ps f) (sym first)
     (inr (inl (m, means, behind_after p.place m so_far.blocks so_far.body ∙ ap (option_map blocks_in) none, is))))
 
--- no piece is left
+-- No piece is left.
 pub whole : (all left : List Piece) (so_far : Progress) (ss : Statements) → left ≡ [] → so_far.blocks ≡ [] → ss ≡ run_order so_far.body
     → Leads all so_far left → BodyAt ss 0 all []
 whole all left so_far ss end none same leads =

@@ -1,4 +1,4 @@
--- An application expands to one thing.
+-- The expansion of an application is unique.
 use Rattle.std.proofs.Common.{◌≡◌, inl, inr, ℕ, ◌+◌, Bool, true, false, List, [], ◌∷◌, sym, ◌∙◌, ap, arith}
 use Rattle.jac_lang.specs.Syntax.{Statement, Statements, Page, Application}
 use Rattle.jac_template.specs.Applications.{Expanded, ExpandsStatement, ExpandsBody, ExpandsView, ExpandsViews, ExpandsApplication, StatementFault, BodyFault, ViewsFault}
@@ -23,7 +23,7 @@ no_both text ss f h k =
     let e : false ≡ true = ap is_fault (one_expansion text (Expansion.statements ss) (Expansion.fault f) h k) in
     grind (arith, e)
 
--- what a body expands to is one, and it has no fault
+-- The expansion of a body is unique, and the body then has no fault.
 mutual
   one_statement : (s a b : Statement) → ExpandsStatement s a → ExpandsStatement s b → a ≡ b
   one_statement (Statement.put e) a b h k = h ∙ sym k
@@ -70,7 +70,7 @@ mutual
   body_whole (Statements.more s rest) a f (x, xs, h, i, p) (inl k) = statement_whole s x f h k
   body_whole (Statements.more s rest) a f (x, xs, h, i, p) (inr (y, j, k)) = body_whole rest xs f i k
 
--- and its first fault is one
+-- The first fault of a body is unique.
 mutual
   one_statement_fault : (s : Statement) (f g : Fault) → StatementFault s f → StatementFault s g → f ≡ g
   one_statement_fault (Statement.put e) f g h k = absurd h
@@ -97,7 +97,7 @@ mutual
   one_body_fault (Statements.more s rest) f g (inr (x, i, h)) (inl k) = absurd (statement_whole s x g i k)
   one_body_fault (Statements.more s rest) f g (inr (x, i, h)) (inr (y, j, k)) = one_body_fault rest f g h k
 
--- the same of views
+-- The same for views.
 one_view : (v a b : Page) → ExpandsView v a → ExpandsView v b → a ≡ b
 one_view v a b (ss, h, p) (ts, k, q) = p ∙ ap (λ (z : Statements). with_body z) (one_body v.body ss ts h k) ∙ sym q
   where

@@ -1,4 +1,5 @@
--- A text expands to one thing: what the pieces come to, read from the left with the open blocks.
+-- The expansion of a text is unique: it is the result of reading the pieces from the left with the
+-- open blocks.
 use Rattle.std.proofs.Common.{◌≡◌, ◌<◌, inl, inr, ℕ, suc, Bool, true, false, nat_lt, List, [], ◌∷◌, length, Option, Some, None, refl, sym, ◌∙◌, ap, subst, arith}
 use Rattle.std.proofs.lemmas.Bool.Decides.{nat_tests}
 use Rattle.std.specs.Option.{option_map}
@@ -18,7 +19,7 @@ use Rattle.jac_template.specs.declared.pieces.Kind.TheVariants as kinds
 use Rattle.jac_template.proofs.FaultLaws.{no_fault, one_fault}
 use Rattle.jac_template.proofs.Leads.{blocks_of, blocks_in, behind_after}
 
--- a piece means one thing
+-- The meaning of a piece is unique.
 one_tree : (place : ℕ) (form : PlainTree → Form) (content : List ℕ) (m n : Meaning) → MeansTree place form content m → MeansTree place form content n → m ≡ n
 one_tree place form content m n (inl (t, a, e)) (inl (u, b, k)) =
     e ∙ ap (λ (z : PlainTree). meaning_of_form place (form z)) (spells_one content t u a.spelled b.spelled) ∙ sym k
@@ -36,7 +37,7 @@ one_as kinds.Endless place content m n h k = h ∙ sym k
 one_meaning : (p : Piece) (m n : Meaning) → MeansTag p m → MeansTag p n → m ≡ n
 one_meaning p m n h k = one_as p.kind p.place p.content m n h k
 
--- what the pieces come to
+-- The result of the pieces.
 abbrev AtEnd : List OpenBlock → Statements → Expansion → Type 0
 AtEnd [] body x = x ≡ Expansion.statements (run_order body)
 AtEnd (b ∷ blocks) body x = x ≡ Expansion.fault (Fault.unclosed b.place)
@@ -53,7 +54,7 @@ abbrev Runs : List Piece → Progress → Expansion → Type 0
 Runs [] q x = AtEnd q.blocks q.body x
 Runs (p ∷ ps) q x = (m : Meaning) × MeansTag p m × Next p.place m q x (λ next. Runs ps next x)
 
--- they come to one thing
+-- The result of the pieces is unique.
 one_end : (blocks : List OpenBlock) (body : Statements) (x y : Expansion) → AtEnd blocks body x → AtEnd blocks body y → x ≡ y
 one_end [] body x y h k = h ∙ sym k
 one_end (b ∷ blocks) body x y h k = h ∙ sym k
@@ -73,7 +74,7 @@ one_run (p ∷ ps) q x y (m, means, go) (n, meant, went) =
     one_next (Runs ps) x y (λ next. one_run ps next x y) p.place m q go
     (subst (λ (z : Meaning). Next p.place z q y (λ next. Runs ps next y)) (one_meaning p n m meant means) went)
 
--- statements turned round twice
+-- Statements reversed twice.
 abbrev put_before : Statements → Statements → Statements
 put_before Statements.none out = out
 put_before (Statements.more s ss) out = Statements.more s (put_before ss out)
@@ -89,7 +90,7 @@ before_none (Statements.more s ss) = ap (λ (rest : Statements). Statements.more
 in_order : (ss : Statements) → run_order (body_onto ss Statements.none) ≡ ss
 in_order ss = turned_twice ss Statements.none Statements.none ∙ before_none ss
 
--- the first piece is this mark
+-- The first piece is this mark.
 marked : (m : Mark) (p : Piece) (from to : List Piece) (q : Progress) (x : Expansion) → from ≡ p ∷ to → MeansTag p (Meaning.mark m)
     → NextIf (progress_after p.place m q) (misplaced_fault p.place m) x (λ next. Runs to next x) → Runs from q x
 marked m p from to q x first means go = subst (λ (ps : List Piece). Runs ps q x) (sym first) (Meaning.mark m, means, go)
@@ -100,7 +101,7 @@ opened_if place opening blocks body f x go few h =
     let test : nat_lt (length blocks) 64 ≡ true = grind (arith, nat_tests, few) in
     rw test h
 
--- what the grammar writes, the pieces come to
+-- What the grammar describes is the result of the pieces.
 mutual
   run_statement : (s : Statement) (blocks : List OpenBlock) (body : Statements) (from to : List Piece) (x : Expansion) → StatementAt s (length blocks) from to
       → Runs to (progress blocks (Statements.more s body)) x → Runs from (progress blocks body) x
@@ -134,7 +135,7 @@ mutual
   run_statement (Statement.template t) blocks body from to x at h = absurd at
   run_statement (Statement.block inner) blocks body from to x at h = absurd at
 
-  -- from the end of the first body of an `if`
+  -- From the end of the first body of an `if`.
   run_other : (other : Statements) (c : Expression) (place : ℕ) (inner : Statements) (blocks : List OpenBlock) (body : Statements) (from to : List Piece) (x : Expansion)
       → OtherAt other (suc (length blocks)) from to → Runs to (progress blocks (Statements.more (Statement.branch c inner other) body)) x
       → Runs from (progress (open_block place (Opening.first c) body ∷ blocks) (body_onto inner Statements.none)) x
@@ -162,7 +163,7 @@ mutual
   run_body (Statements.more s ss) blocks body from to x (rest, one, more) h =
       run_statement s blocks body from rest x one (run_body ss blocks (Statements.more s body) rest to x more h)
 
--- and so with the first fault
+-- The same for the first fault.
 at_fault : (blocks : List OpenBlock) (body : Statements) (f : Fault) → EndFault (blocks_of blocks) f → AtEnd blocks body (Expansion.fault f)
 at_fault [] body f h = absurd h
 at_fault (b ∷ blocks) body f h = ap (λ (g : Fault). Expansion.fault g) h

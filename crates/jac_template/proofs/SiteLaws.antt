@@ -1,4 +1,5 @@
--- The sites of creates stay when templates are expanded, since a template creates nothing.
+-- The sites of `create` statements stay the same when templates are expanded, because a template
+-- creates nothing.
 use Rattle.std.proofs.Common.{◌≡◌, ◌∙◌, ap, refl, ℕ, suc, List, [], ◌∷◌, ◌++◌}
 use Rattle.jac_lang.specs.Syntax.{Statement, Statements, Page}
 use Rattle.jac_lang.specs.Written.{sites, sites_in}

@@ -1,4 +1,4 @@
--- No template stands in what a template, a body or a view expands to.
+-- The expansion of a template, a body or a view has no template.
 use Rattle.std.proofs.Common.{◌≡◌, ℕ, suc, ◌&&◌, Bool, true, List, [], refl, ◌∙◌, ap}
 use Rattle.jac_lang.specs.Syntax.{Statement, Statements}
 use Rattle.jac_template.specs.Applications.{ExpandsStatement, ExpandsBody}
@@ -9,7 +9,7 @@ use Rattle.jac_lang.specs.Untemplated.{is_untemplated, are_untemplated}
 both : (a b : Bool) → a ≡ true → b ≡ true → (a && b) ≡ true
 both a b p q = rw (p, q) refl
 
--- the grammar writes no template
+-- The grammar describes no template.
 mutual
   written_one : (s : Statement) (depth : ℕ) (from to : List Piece) → StatementAt s depth from to → is_untemplated s ≡ true
   written_one (Statement.put e) depth from to h = refl
@@ -37,7 +37,7 @@ mutual
   written (Statements.more s ss) depth from to (rest, first, more) =
       both (is_untemplated s) (are_untemplated ss) (written_one s depth from rest first) (written ss depth rest to more)
 
--- and so does no expansion
+-- No expansion has a template.
 mutual
   expanded_one : (s out : Statement) → ExpandsStatement s out → is_untemplated out ≡ true
   expanded_one (Statement.put e) out same = ap is_untemplated same

@@ -1,4 +1,4 @@
--- A text that is cut into pieces is cut into texts.
+-- The pieces of a text in UTF-8 are UTF-8.
 use Rattle.std.proofs.Common.{◌≡◌, ◌<◌, ◌≤◌, ◌+◌, ◌==◌, ◌||◌, ◌⊎◌, inl, inr, ℕ, suc, Bool, true, false, if◌then◌else◌, List, [], ◌∷◌, length, take, drop, get_or, Option, Some, None, refl, subst, arith}
 use Rattle.std.proofs.lemmas.Bool.Decides.{nat_tests}
 use Rattle.std.proofs.lemmas.Bool.{cases_lt}
@@ -11,7 +11,7 @@ use Rattle.jac_template.specs.Pieces.{begins_with, begins_tag, literal_length, c
 use Rattle.jac_template.specs.declared.pieces.Kind.{Kind}
 use Rattle.jac_template.specs.declared.pieces.Kind.TheVariants as kinds
 
--- literal text ends before an ASCII byte or at the end
+-- Literal text ends before an ASCII byte or at the end.
 begins_by : (first second a : ℕ) (bytes : List ℕ) → begins_with first second (a ∷ bytes) ≡ true → a ≡ first
 begins_by first second a [] e = absurd (grind (arith, e))
 begins_by first second a (b ∷ bytes) e = grind (arith, nat_tests, e)
@@ -24,7 +24,7 @@ tag_by a bytes e = either (begins_with 123 123 (a ∷ bytes)) (begins_with 123 3
     either false true p q h = begins_by 123 37 a bytes q
     either false false p q h = absurd (grind (arith, h))
 
--- a place is at the end, or before an ASCII byte
+-- The place is the end, or is before an ASCII byte.
 abbrev IsCut : List ℕ → ℕ → Type 0
 IsCut bytes n = (n ≤ length bytes) × (n < length bytes → get_or bytes n 0 < 128)
 
@@ -51,7 +51,7 @@ boundary bytes n (most, ascii) = split (cases_lt n (length bytes))
         let all : length bytes ≡ n = omega (arith, more, most) in
         subst (λ (m : ℕ). IsCharBoundary bytes m) all (IsCharBoundary-end bytes)
 
--- a tag's content ends before a byte and a `}`
+-- A tag's content ends before a byte and a `}`.
 abbrev EndsAt : List ℕ → Option ℕ → Type 0
 EndsAt bytes None = Unit {0}
 EndsAt bytes (Some n) = (n + 2 ≤ length bytes) × (get_or bytes (n + 1) 0 ≡ 125)
@@ -93,7 +93,7 @@ mutual
   escaped_ends mark [] = tt
   escaped_ends mark (b ∷ bytes) = further_end b bytes (quoted_length mark bytes) (quoted_ends mark bytes)
 
--- after a tag
+-- The bytes after a tag are UTF-8.
 behind_tag_text : (kind : Kind) (a b : ℕ) (inside : List ℕ) (found : Option ℕ) → EndsAt inside found → IsUtf8 (a ∷ b ∷ inside)
     → IsUtf8 (drop (tag_cut kind inside found).size (a ∷ b ∷ inside))
 behind_tag_text kind a b inside (Some n) (most, is) text =
@@ -111,7 +111,7 @@ behind_tag_text kind a b inside None h text =
 behind_literal : (left : List ℕ) → IsUtf8 left → IsUtf8 (drop (literal_length left) left)
 behind_literal left text = IsUtf8-drop left (literal_length left) text (boundary left (literal_length left) (literal_cut left))
 
--- what follows the first piece is a text
+-- The bytes after the first piece are UTF-8.
 pub rest_text : (left : List ℕ) → IsUtf8 left → IsUtf8 (drop (first_cut left).size left)
 rest_text [] text = text
 rest_text (a ∷ []) text = behind_literal (a ∷ []) text
@@ -128,7 +128,7 @@ rest_text (a ∷ b ∷ inside) text = either (begins_with 123 123 (a ∷ b ∷ i
     either false true = behind_tag_text kinds.Control a b inside (content_length 37 inside) (content_ends 37 inside) text
     either false false = behind_literal (a ∷ b ∷ inside) text
 
--- and so is literal text
+-- Literal text is UTF-8.
 no_literal : (kind : Kind) (inside : List ℕ) (found : Option ℕ) → HasText kind [] → ((content : List ℕ) → HasText kind content)
     → HasText (tag_cut kind inside found).kind (tag_cut kind inside found).content
 no_literal kind inside (Some n) empty any = any (take n inside)

@@ -1,4 +1,5 @@
--- Each text is a template or has a fault: the pieces are read from the left with the open blocks, and each of them has a meaning.
+-- Each text is a template or has a fault. The pieces are read from the left with the open blocks,
+-- and each piece has a meaning.
 use Rattle.std.proofs.Common.{◌≡◌, ◌<◌, ◌≤◌, ◌⊎◌, inl, inr, ℕ, zero, suc, Bool, true, false, true≢false, List, [], ◌∷◌, length, take, take_all, Option, Some, None, if◌then◌else◌, codes, refl, sym, ◌∙◌, subst, arith, ⊎_elim}
 use Rattle.std.proofs.lemmas.Bool.{cases_Bool, cases_lt, cond-true, cond-false}
 use Rattle.std.proofs.lemmas.Str.{IsUtf8-from_is_utf8, is_utf8-from_IsUtf8}
@@ -31,7 +32,7 @@ use Rattle.jac_template.specs.declared.pieces.Kind.TheVariants as kinds
 use Rattle.jac_template.proofs.FormReads.{is_answer, map_answers, expression_answers, query_answer}
 use Rattle.jac_template.proofs.Leads.{Leads, leads_from, leads_on, fault_here, fault_of_place, whole, unended}
 
--- bytes are UTF-8, or have a longest front that is
+-- Bytes are UTF-8, or they have a longest prefix that is.
 longest_front : (bytes : List ℕ) (m : ℕ)
     → IsUtf8 (take (valid_len_up_to bytes m) bytes) × ((k : ℕ) → valid_len_up_to bytes m < k → k ≤ m → ¬ (IsUtf8 (take k bytes)))
 longest_front bytes zero = (([], (refl, refl)), λ k above within. absurd (omega arith))
@@ -73,7 +74,7 @@ text_or_not bytes =
     (λ (all : length bytes ≤ n). inl (subst IsUtf8 (take_all n bytes all) front.0))
     (cases_lt n (length bytes))
 
--- bytes are a tree or have a fault
+-- The bytes are a tree or have a fault.
 abbrev IsRead : List ℕ → Type 0
 IsRead bytes = ((t : PlainTree) × Accepted bytes t) ⊎ ((f : TreeFault) × IsFaultOf bytes f)
 
@@ -88,7 +89,7 @@ bytes_read bytes = by_length (cases_lt 1048576 (length bytes))
     by_length (inl long) = inr (trees.Long, long)
     by_length (inr short) = by_text short (text_or_not bytes)
 
--- a form whose fault isn't want of memory
+-- A form, unless its fault is out of memory.
 abbrev has_fault : Form → Bool
 has_fault Form.stray = true
 has_fault (Form.formless f) = refuses f
@@ -148,7 +149,7 @@ control_form (PlainTree.atom a) = word_form a
 control_form (PlainTree.text x) = refl
 control_form (PlainTree.list ts) = list_form ts
 
--- the code has this fault, and it isn't want of memory
+-- The fault is one of the code's, other than out of memory.
 abbrev IsTold : Fault → Type 0
 IsTold f = (g : TemplateFault) × IsTrue (refuses_template g) × (fault_in_template g ≡ f)
 
@@ -174,7 +175,7 @@ tree_told place content (trees.Deep at) h = (faults.Tree place (trees.Deep at), 
 tree_told place content (trees.Unclosed at) h = (faults.Tree place (trees.Unclosed at), refl, refl)
 tree_told place content trees.Memory h = absurd h
 
--- each piece has a meaning
+-- Each piece has a meaning.
 content_means : (place : ℕ) (form : PlainTree → Form) (content : List ℕ) → ((t : PlainTree) → has_fault (form t) ≡ true)
     → (m : Meaning) × MeansTree place form content m × IsSound m
 content_means place form content each = by_tree (bytes_read content)
@@ -198,7 +199,7 @@ misplaced_told place (Mark.each q) = (faults.Deep place, refl, refl)
 misplaced_told place Mark.otherwise = (faults.Stray place, refl, refl)
 misplaced_told place Mark.finish = (faults.Stray place, refl, refl)
 
--- the pieces are a template or have a fault
+-- The pieces are a template or have a fault.
 abbrev AreRead : List Piece → Type 0
 AreRead all = ((ss : Statements) × BodyAt ss 0 all [])
     ⊎ ((f : TemplateFault) × IsTrue (refuses_template f) × FirstFault [] all (fault_in_template f))

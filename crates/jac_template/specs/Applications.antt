@@ -4,7 +4,7 @@ use Rattle.jac_lang.specs.Syntax.{Statement, Statements, Page, Application}
 use Rattle.jac_template.specs.Expansion.{Expansion, Expands}
 use Rattle.jac_template.specs.Faults.{Fault}
 
--- each template is replaced by the block of its statements, and all else stays
+-- Each template is replaced by the block of its statements. All else stays the same.
 abbrev mutual
   pub ExpandsStatement : Statement → Statement → Type 0
   ExpandsStatement (Statement.template t) s =
@@ -28,7 +28,7 @@ abbrev mutual
       (out : Statement) × (more : Statements) × ExpandsStatement s out × ExpandsBody rest more
       × (ss ≡ Statements.more out more)
 
--- the first template with a fault, in the order of the text, has this one
+-- This is the fault of the first template with a fault, in the order of the text.
 abbrev mutual
   pub StatementFault : Statement → Fault → Type 0
   StatementFault (Statement.template t) fault = Expands t (Expansion.fault fault)
@@ -53,14 +53,14 @@ ExpandsViews [] out = out ≡ []
 ExpandsViews (v ∷ vs) out = (first : Page) × (rest : List Page) × ExpandsView v first
     × ExpandsViews vs rest × (out ≡ first ∷ rest)
 
--- the first view with a fault has this number, where the first one's is `number`, and this fault
+-- The first view with a fault has this number and this fault. Views are numbered from `number` on.
 abbrev pub ViewsFault : ℕ → List Page → ℕ → Fault → Type 0
 ViewsFault number [] view fault = ⊥
 ViewsFault number (v ∷ vs) view fault =
     ((view ≡ number) × BodyFault v.body fault)
     ⊎ ((out : Page) × ExpandsView v out × ViewsFault (number + 1) vs view fault)
 
--- what an application expands to
+-- The expansion of an application.
 pub data Expanded : Type 0 where
   application : Application → Expanded
   fault : ℕ → Fault → Expanded

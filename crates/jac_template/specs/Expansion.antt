@@ -5,7 +5,7 @@ use Rattle.jac_template.specs.Faults.{Fault}
 use Rattle.jac_template.specs.Grammar.{BodyAt, FirstFault}
 use Rattle.jac_template.specs.Pieces.{pieces}
 
--- the statements that a text is a template of, or its first fault
+-- The statements of a template, or its first fault.
 pub data Expansion : Type 0 where
   statements : Statements → Expansion
   fault : Fault → Expansion

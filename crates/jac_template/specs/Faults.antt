@@ -8,7 +8,7 @@ use Rattle.jac_tree.specs.declared.fault.TreeFault.TheVariants as trees
 use Rattle.jac_template.specs.declared.fault.TemplateFault.{TemplateFault}
 use Rattle.jac_template.specs.declared.fault.TemplateFault.TheVariants as faults
 
--- a fault, with the place of the first byte of its tag; want of memory is none of the text's
+-- A fault, with the place of the first byte of its tag. Out of memory is no fault of the text.
 pub data Fault : Type 0 where
   unclosed : ℕ → Fault
   stray : ℕ → Fault
@@ -25,7 +25,8 @@ abbrev pub form_fault : ℕ → FormFault → Fault
 form_fault place forms.Memory = Fault.memory
 form_fault place fault = Fault.form place fault
 
--- an expression or query has no form, and the fault at this place tells the first one of it
+-- The expression or query can't be read. The fault is at this place, and has the first fault of
+-- reading it.
 pub record IsFormless {A : Type 0} (place : ℕ) (read : Read A) (fault : Fault) : Type 0 where
   pub first : FormFault
   pub is_first : read ≡ refused first
@@ -39,7 +40,7 @@ fault_in_template (faults.Tree place fault) = tree_fault place fault
 fault_in_template (faults.Form place fault) = form_fault place fault
 fault_in_template faults.Memory = Fault.memory
 
--- the text is refused, and not for want of memory
+-- The fault is a reason to refuse the text. Out of memory isn't.
 abbrev pub refuses_template : TemplateFault → Bool
 refuses_template faults.Memory = false
 refuses_template fault = true

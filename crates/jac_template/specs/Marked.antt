@@ -21,17 +21,17 @@ mark_of (read.For q) = Mark.each (question_of q)
 mark_of read.Else = Mark.otherwise
 mark_of read.End = Mark.finish
 
--- the content of the tag at this place is no tree, and this tells why
+-- The content of the tag at this place is no tree, and the fault is the reason.
 abbrev pub IsContentFault : ℕ → List ℕ → Fault → Type 0
 IsContentFault place content f = (fault : TreeFault) × IsFaultOf content fault
     × (f ≡ Fault.tree place fault)
 
--- the fault is one of the bytes, and not want of memory
+-- The fault is one of the bytes, not out of memory.
 abbrev pub is_of_bytes : TreeFault → Bool
 is_of_bytes trees.Memory = false
 is_of_bytes fault = true
 
--- literal text is a text
+-- Literal text is UTF-8.
 abbrev pub HasText : Kind → List ℕ → Type 0
 HasText kinds.Literal content = IsUtf8 content
 HasText kinds.Output content = Unit {0}

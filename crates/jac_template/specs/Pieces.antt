@@ -4,23 +4,23 @@ use Rattle.std.specs.Option.{option_map}
 use Rattle.jac_template.specs.declared.pieces.Kind.{Kind}
 use Rattle.jac_template.specs.declared.pieces.Kind.TheVariants as kinds
 
--- the bytes begin with these two
+-- The bytes begin with these two.
 abbrev pub begins_with : ℕ → ℕ → List ℕ → Bool
 begins_with first second [] = false
 begins_with first second (a ∷ []) = false
 begins_with first second (a ∷ b ∷ bs) = a == first && b == second
 
--- `{{` or `{%`
+-- `{{` or `{%`.
 abbrev pub begins_tag : List ℕ → Bool
 begins_tag bytes = begins_with 123 123 bytes || begins_with 123 37 bytes
 
--- how many bytes stand before the first tag
+-- The number of bytes before the first tag.
 abbrev pub literal_length : List ℕ → ℕ
 literal_length [] = 0
 literal_length (b ∷ bs) = if begins_tag (b ∷ bs) then 0 else literal_length bs + 1
 
--- how many bytes stand before the end of a tag, which is the first `mark` and `}` outside of a
--- quoted text
+-- The number of bytes before the end of a tag, which is the first `mark` followed by `}` outside of
+-- quoted texts.
 abbrev mutual
   pub content_length : ℕ → List ℕ → Option ℕ
   content_length mark [] = None
@@ -29,19 +29,19 @@ abbrev mutual
       else option_map (λ n. n + 1) (if b == 34 then quoted_length mark bs
       else content_length mark bs)
 
-  -- from within a quoted text, which a quote ends
+  -- The same, from inside a quoted text. A quote ends it.
   pub quoted_length : ℕ → List ℕ → Option ℕ
   quoted_length mark [] = None
   quoted_length mark (b ∷ bs) =
       option_map (λ n. n + 1) (if b == 34 then content_length mark bs else if b == 92
       then escaped_length mark bs else quoted_length mark bs)
 
-  -- from after a backslash in a quoted text: whatever follows does not end it
+  -- The same, after a backslash in a quoted text. The next byte doesn't end the text.
   pub escaped_length : ℕ → List ℕ → Option ℕ
   escaped_length mark [] = None
   escaped_length mark (b ∷ bs) = option_map (λ n. n + 1) (quoted_length mark bs)
 
--- the first piece of some bytes: its kind, what stands in it, and how many bytes it has
+-- The first piece of some bytes: its kind, its content, and the number of its bytes.
 pub record Cut : Type 0 where
   pub kind : Kind
   pub content : List ℕ
@@ -50,7 +50,8 @@ pub record Cut : Type 0 where
 abbrev pub piece_cut : Kind → List ℕ → ℕ → Cut
 piece_cut kind content size = record { kind = kind; content = content; size = size }
 
--- a tag with these bytes after its first two, and so many of them before its end
+-- A tag with these bytes after its first two. The number, if there is one, is that of the bytes
+-- before its end.
 abbrev pub tag_cut : Kind → List ℕ → Option ℕ → Cut
 tag_cut kind inside (Some n) = piece_cut kind (take n inside) (n + 4)
 tag_cut kind inside None = piece_cut kinds.Endless [] (length inside + 2)
@@ -63,7 +64,7 @@ first_cut bytes =
     (content_length 37 (drop 2 bytes)) else
     piece_cut kinds.Literal (take (literal_length bytes) bytes) (literal_length bytes)
 
--- a piece, and the place of its first byte
+-- A piece, and the place of its first byte.
 pub record Piece : Type 0 where
   pub place : ℕ
   pub kind : Kind
@@ -72,8 +73,8 @@ pub record Piece : Type 0 where
 abbrev pub piece : ℕ → Cut → Piece
 piece place c = record { place = place; kind = c.kind; content = c.content }
 
--- the pieces of the bytes, of which the first `skip` belong to the piece before and the first
--- stands at `place`
+-- The pieces of the bytes. The first byte is at `place`, and the first `skip` bytes belong to the
+-- previous piece.
 abbrev pub pieces_from : ℕ → ℕ → List ℕ → List Piece
 pieces_from place skip [] = []
 pieces_from place zero (b ∷ bs) = piece place (first_cut (b ∷ bs)) ∷ pieces_from (place + 1)

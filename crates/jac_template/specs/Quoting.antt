@@ -1,4 +1,4 @@
--- What the reader of a tag's content knows of a place.
+-- Places in a tag's content: outside of quotes, inside them, or after a backslash there.
 use Rattle.std.specs.Prelude.{ℕ, ◌+◌, ◌==◌, Bool, false, if◌then◌else◌, Option, List}
 use Rattle.std.specs.Option.{option_map}
 use Rattle.jac_template.specs.Pieces.{begins_with, content_length, quoted_length, escaped_length}
@@ -16,12 +16,12 @@ behind_byte quotings.Quoted byte = if byte == 34 then quotings.Outside else if b
     then quotings.Escaped else quotings.Quoted
 behind_byte quotings.Escaped byte = quotings.Quoted
 
--- how many bytes stand before the end of the tag, from such a place
+-- The number of bytes from such a place to the end of the tag.
 abbrev pub length_at : Quoting → ℕ → List ℕ → Option ℕ
 length_at quotings.Outside mark bytes = content_length mark bytes
 length_at quotings.Quoted mark bytes = quoted_length mark bytes
 length_at quotings.Escaped mark bytes = escaped_length mark bytes
 
--- a length, counted from so many bytes before
+-- The length, counted from `n` bytes earlier.
 abbrev pub further : ℕ → Option ℕ → Option ℕ
 further n found = option_map (λ m. m + n) found

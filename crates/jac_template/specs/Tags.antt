@@ -15,7 +15,7 @@ use Rattle.jac_template.specs.Pieces.{Piece}
 use Rattle.jac_template.specs.declared.pieces.Kind.{Kind}
 use Rattle.jac_template.specs.declared.pieces.Kind.TheVariants as kinds
 
--- a piece without fault: a statement by itself, what opens a block, `else`, or `end`
+-- A piece without a fault: a single statement, the opening of a block, `else`, or `end`.
 pub data Mark : Type 0 where
   put : Expression → Mark
   escape : Expression → Mark
@@ -25,8 +25,8 @@ pub data Mark : Type 0 where
   otherwise : Mark
   finish : Mark
 
--- what a tree is as the content of a tag: of no form that a tag has, an expression or query that
--- has no form, with its first fault, or a mark
+-- A tree as the content of a tag. It has none of the forms of a tag, or its expression or query
+-- can't be read and has this first fault, or it is a mark.
 pub data Form : Type 0 where
   stray : Form
   formless : FormFault → Form
@@ -36,11 +36,11 @@ abbrev pub form_of_mark : Read Mark → Form
 form_of_mark (got m) = Form.mark m
 form_of_mark (refused f) = Form.formless f
 
--- `{{ e }}` is `(esc e)`
+-- `{{ e }}` is `(esc e)`.
 abbrev pub output_of_tree : PlainTree → Form
 output_of_tree t = form_of_mark (read_map Mark.escape (expression_in_tree [] t))
 
--- `(put e)`, `(if e)`, `(for q)`
+-- `(put e)`, `(if e)`, `(for q)`.
 abbrev pub single_of_tree : PlainTree → PlainTree → Form
 single_of_tree head t =
     if is_word (codes "put") head then form_of_mark (read_map Mark.put
@@ -51,7 +51,7 @@ single_of_tree head t =
     (question_in_tree 3 [] t)) else
     Form.stray
 
--- `(let NAME e)`
+-- `(let NAME e)`.
 abbrev pub named_bind : Option (List ℕ) → PlainTree → Form
 named_bind None t = Form.stray
 named_bind (Some x) t = form_of_mark (read_map (Mark.bind x) (expression_in_tree [] t))
@@ -60,7 +60,7 @@ abbrev pub bind_of_trees : PlainTree → PlainTree → PlainTree → Form
 bind_of_trees head x t = if is_word (codes "let") head then named_bind (name_of_tree x) t
     else Form.stray
 
--- `else`, `end`
+-- `else`, `end`.
 abbrev pub word_of_tree : List ℕ → Form
 word_of_tree a =
     if bytes_eq a (codes "else") then Form.mark Mark.otherwise else
@@ -78,7 +78,7 @@ control_of_tree (PlainTree.atom a) = word_of_tree a
 control_of_tree (PlainTree.text x) = Form.stray
 control_of_tree (PlainTree.list ts) = control_of_trees ts
 
--- what a piece means: a mark, or its fault
+-- The meaning of a piece: a mark, or its fault.
 pub data Meaning : Type 0 where
   mark : Mark → Meaning
   fault : Fault → Meaning
@@ -88,7 +88,8 @@ meaning_of_form place Form.stray = Meaning.fault (Fault.stray place)
 meaning_of_form place (Form.formless f) = Meaning.fault (Fault.form place f)
 meaning_of_form place (Form.mark m) = Meaning.mark m
 
--- the content of a tag is one tree, whose form is the meaning, or has a fault of its own
+-- The content of a tag is one tree, and its form is the meaning, or the content has a fault as a
+-- tree.
 abbrev pub MeansTree : ℕ → (PlainTree → Form) → List ℕ → Meaning → Type 0
 MeansTree place form content m =
     ((t : PlainTree) × Accepted content t × (m ≡ meaning_of_form place (form t)))

@@ -12,15 +12,15 @@ use jac_lang::{App, Stmt, Stmts, View, Views};
 use jac_value::Memory;
 use std::alloc::Global;
 
-/// The first view, from 0, that has a template with a fault, and the first such fault of it.
+/// The number of the first view, from 0, that has a template with a fault, and its first fault.
 #[derive(Drop)]
 pub struct ViewFault {
     pub view: u32,
     pub fault: TemplateFault,
 }
 
-/// The application with each template replaced by the block of its statements. A refused
-/// application is dropped.
+/// The application, with each template replaced by the block of its statements. If it is refused,
+/// it is dropped.
 pub fn expand_app(alloc: Global, app: App) -> Result<App, ViewFault>
     requires few { length app.views < 2 ^ 32 }
     ensures application { IfOk result (λ out. ExpandsApplication (application_of app)
@@ -68,7 +68,7 @@ fn expand_views(alloc: Global, views: Views) -> Result<Views, ViewFault>
     Ok(Views::from_vec(out))
 }
 
-// Puts the view with its templates expanded after the others.
+// Appends the view with its templates expanded.
 fn expand_view(alloc: Global, out: &mut Vec<View>, view: View) -> Result<(), TemplateFault>
     ensures view { OnOk result ((p : Page) × ExpandsView (page_of_view view) p
         × (are_untemplated p.body ≡ true) × (pages_of out.new.items ≡ pages_of out.old.items ++ p

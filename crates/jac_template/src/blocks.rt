@@ -14,10 +14,10 @@ use jac_value::{Memory, Txt};
 use std::alloc::Global;
 use std::mem;
 
-// The most blocks that are open at once.
+// The largest number of blocks that are open at once.
 const NESTING_LIMIT: usize = 64;
 
-/// The body that is open: of a `let`, the first or the second of an `if`, of a `for`.
+/// The open body: that of a `let`, the first or the second of an `if`, or that of a `for`.
 #[derive(Drop)]
 pub enum Context {
     Let(Txt, Expr),
@@ -26,7 +26,7 @@ pub enum Context {
     For(Query),
 }
 
-/// An open block. The statements before it are turned round.
+/// An open block. The statements before it are in reverse order.
 #[derive(Drop)]
 pub struct Frame {
     place: u64,
@@ -34,7 +34,7 @@ pub struct Frame {
     before: Stmts,
 }
 
-/// The open blocks, the innermost one last, and the statements of its body so far, turned round.
+/// The open blocks, the innermost last, and the statements of its body so far, in reverse order.
 #[derive(Drop)]
 pub struct Blocks {
     frames: Vec<Frame>,
@@ -51,7 +51,7 @@ impl Blocks {
         }
     }
 
-    /// Goes on with the mark of the tag at this place.
+    /// Reads the mark of the tag at this place.
     pub fn take(&mut self, alloc: Global, place: u64, mark: Mark) -> Result<(), TemplateFault>
         ensures taken { OnOk result (progress_after place (mark_of mark) (progress_of self.old)
             ≡ Some (progress_of self.new)) }
@@ -76,7 +76,7 @@ impl Blocks {
         }
     }
 
-    /// The statements, where each block has its `end`.
+    /// The statements, if each block has its `end`.
     pub fn finish(self) -> Result<Stmts, TemplateFault>
         ensures whole { IfOk result (λ ss. ((progress_of self).blocks ≡ [])
             × (statements_of ss ≡ run_order (progress_of self).body)) }
@@ -145,7 +145,7 @@ impl Blocks {
         }
     }
 
-    // The second body of the `if` whose tag is at this place, after its first.
+    // Begins the second body of the `if` with its tag at this place.
     fn begin_else(&mut self, place: u64, c: Expr, before: Stmts) -> Result<(), TemplateFault>
         ensures taken { OnOk result (turned_in place (Opening.first (expression_of c))
             (statements_of before) (progress_of self.old).blocks (progress_of self.old).body
@@ -190,7 +190,7 @@ fn push_frame(frames: &mut Vec<Frame>, frame: Frame) -> Result<(), Memory>
     Ok(())
 }
 
-// What a block is once its `end` was read.
+// The statement of a block, after its `end` is read.
 fn statement_of(context: Context, body: Stmts) -> Stmt
     ensures { statement_of result ≡ statement (opening_of context) (statements_of body) }
 {

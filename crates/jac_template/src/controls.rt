@@ -28,7 +28,7 @@ pub fn read_output(alloc: Global, place: u64, tree: &Tree) -> Result<Mark, Templ
     Ok(Mark::Esc(e))
 }
 
-/// The statement, the beginning of a block, or the word that a tree is in a tag `{% .. %}`.
+/// The mark of a tree in a tag `{% .. %}`: a statement, the opening of a block, `else` or `end`.
 pub fn read_control(alloc: Global, place: u64, tree: &Tree) -> Result<Mark, TemplateFault>
     ensures mark { IfOk result (λ m. control_of_tree (plain tree.now) ≡ Form.mark (mark_of m)) }
     ensures fault { IfErr result (λ f. IsTrue (refuses_template f)

@@ -11,8 +11,8 @@ use jac_lang::Stmts;
 use jac_value::Txt;
 use std::alloc::Global;
 
-/// The statements that a text is a template of, or the first fault in reading order. `{{ e }}` is
-/// `(esc e)`, so a page shows what stands there as text and never as markup.
+/// The statements of a template, or its first fault in reading order. `{{ e }}` is `(esc e)`, so
+/// its value is escaped for HTML.
 pub fn expand(alloc: Global, text: &Txt) -> Result<Stmts, TemplateFault>
     ensures statements { IfOk result
         (λ ss. Expands text.now (Expansion.statements (statements_of ss))) }

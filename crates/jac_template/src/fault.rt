@@ -5,19 +5,20 @@ use jac_forms::FormFault;
 use jac_tree::TreeFault;
 use jac_value::Memory;
 
-/// Why a text is no template. Each place is that of the first byte of a tag, in bytes from 0.
+/// Why a text is no template. Each place is that of the first byte of a tag, counted in bytes from
+/// 0.
 #[derive(Drop)]
 pub enum TemplateFault {
-    /// A tag has no end, or a block has no `end`: of the blocks that are open at the end of the
-    /// text, this is the innermost one.
+    /// A tag has no end, or a block has no `end`. For blocks, this is the innermost one that is
+    /// open at the end of the text.
     Unclosed(u64),
-    /// An `else` or an `end` without its block, or a tree that is no tag.
+    /// An `else` or an `end` without its block, or a tree that has none of the forms of a tag.
     Stray(u64),
     /// A block inside 64 blocks.
     Deep(u64),
     /// The tag's content is no tree. Places in it are counted from the content's first byte.
     Tree(u64, TreeFault),
-    /// The tag's expression or query has no form. The path begins at that expression or query.
+    /// The tag's expression or query can't be read. The path begins at that expression or query.
     Form(u64, FormFault),
     Memory,
 }

@@ -6,7 +6,7 @@ ghost use Rattle.jac_template.specs.Expansion.{Expansion, Expands};
 ghost use Rattle.jac_template.specs.Faults.{fault_in_template, refuses_template};
 ghost use Rattle.jac_template.specs.declared.fault.TemplateFault.{TemplateFault};
 
-/// Laws, with nothing to run: a text expands to one thing, and so does an application.
+/// Laws: the expansion of a text is unique, and so is that of an application.
 pub fn expands_to_one()
     ensures text { (text : List ℕ) (x : Expansion) (y : Expansion) → Expands text x → Expands text y
         → x ≡ y }
@@ -14,15 +14,15 @@ pub fn expands_to_one()
         → ExpandsApplication a y → x ≡ y }
 {}
 
-/// A law: the sites of a view's creates are the same after its expansion, since a template creates
-/// nothing.
+/// A law: the sites of a view's `create` statements are the same after its expansion, because a
+/// template creates nothing.
 pub fn expansion_keeps_sites()
     ensures { (v : Page) (out : Page) → ExpandsView v out → sites out.body ≡ sites v.body }
 {}
 
-/// A law, with nothing to run: each text is a template of some statements, or has a fault other
-/// than want of memory. `expand` may answer that memory ran out, whatever the text is. Without this
-/// law there could be texts for which its contract allows no other answer.
+/// A law: each text is a template of some statements, or has a fault other than out of memory.
+/// `expand` may run out of memory for any text. Without this law, there could be texts for which
+/// its contract allows no other result.
 pub fn each_text_expands()
     ensures { (text : List ℕ) → ((ss : Statements) × Expands text (Expansion.statements ss))
         ⊎ ((fault : TemplateFault) × IsTrue (refuses_template fault)

@@ -14,7 +14,7 @@ use jac_value::{Memory, Txt};
 use std::alloc::Global;
 use std::str::from_utf8;
 
-/// A piece without fault: a statement by itself, what opens a block, `else`, or `end`.
+/// A piece without a fault: a single statement, the opening of a block, `else`, or `end`.
 #[derive(Drop)]
 pub enum Mark {
     Put(Expr),

@@ -2,7 +2,7 @@ ghost use Rattle.std.specs.Prelude.{◌≡◌, ◌≤◌, ◌+◌, ◌-◌, ◌<
 ghost use Rattle.jac_template.specs.Pieces.{begins_with, begins_tag, literal_length, content_length, tag_cut, first_cut};
 ghost use Rattle.jac_template.specs.Quoting.{behind_byte, ends_here};
 
-/// What a piece of a template's text is.
+/// The kind of a piece of a template's text.
 #[derive(Clone, Copy, PartialEq, Eq)]
 pub enum Kind {
     Literal,
@@ -14,7 +14,7 @@ pub enum Kind {
     Endless,
 }
 
-/// The first piece of some bytes, and those that follow it.
+/// The first piece of some bytes, and the bytes after it.
 #[derive(Clone, Copy)]
 pub struct Cut<'t> {
     pub kind: Kind,
@@ -22,7 +22,7 @@ pub struct Cut<'t> {
     pub rest: &'t [u8],
 }
 
-// Where a byte stands.
+// Whether a byte is inside a quoted text.
 #[derive(Clone, Copy, PartialEq, Eq)]
 enum Quoting {
     Outside,
@@ -53,7 +53,7 @@ pub fn first_cut(bytes: &[u8]) -> Cut<'_>
     }
 }
 
-// The tag whose first two bytes stand before these.
+// The tag with these bytes after its first two.
 fn tag_cut(kind: Kind, mark: u8, inside: &[u8]) -> Cut<'_>
     ensures kind { result.kind ≡ (tag_cut kind inside.now (content_length mark inside.now)).kind }
     ensures content { result.content.now
@@ -83,7 +83,7 @@ fn tag_cut(kind: Kind, mark: u8, inside: &[u8]) -> Cut<'_>
     }
 }
 
-// How many bytes stand before the first tag.
+// The number of bytes before the first tag.
 fn literal_length(bytes: &[u8]) -> usize
     ensures value { result ≡ literal_length bytes.now }
     ensures within { result ≤ length bytes.now }
@@ -100,7 +100,7 @@ fn literal_length(bytes: &[u8]) -> usize
     length
 }
 
-// How many bytes stand before the end of a tag.
+// The number of bytes before the end of a tag.
 fn content_length(mark: u8, bytes: &[u8]) -> Option<usize>
     ensures value { result ≡ content_length mark bytes.now }
     ensures within { IfSome result (λ n. n + 2 ≤ length bytes.now) }

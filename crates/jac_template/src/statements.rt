@@ -26,7 +26,7 @@ pub fn before_others(alloc: Global, first: Stmt, others: Stmts) -> Result<Stmts,
     Ok(Stmts::More(first, others))
 }
 
-/// The first statement and the others, where there are any. It takes no memory.
+/// The first statement and the others, if there are any. It takes no memory.
 pub fn part(stmts: Stmts) -> Option<Parted>
     ensures cases { MatchOption result (statements_of stmts ≡ Statements.none)
         (λ p. statements_of stmts ≡ Statements.more (statement_of p.first) (statements_of p.rest)) }
