@@ -1,5 +1,5 @@
-//! A table that was read is held: the second read of the keeper within is to fail, so what is
-//! answered after the first one was held.
+//! A table that was read is cached. The second read of the inner keeper fails, so later answers
+//! come from the cache.
 ghost use Rattle.std.specs.Prelude.{IfOk, IsTrue};
 
 use jac_io::Calls;
@@ -10,7 +10,7 @@ use jac_value::{Id, Memory, Value};
 use std::alloc::Global;
 use std::test::Fail;
 
-// A keeper without records, of which one read alone succeeds.
+// A keeper without records. Only its first read succeeds.
 fn read_once(alloc: Global) -> Result<CachedKeeper<MemoryKeeper>, Memory>
     ensures { IfOk result (λ k. IsTrue k.store.attached) }
 {

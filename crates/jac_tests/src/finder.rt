@@ -1,5 +1,5 @@
-//! The calendar as its first three requests leave it, in memory, and a keeper over it that reads no
-//! whole table.
+//! The calendar after its first three requests, in memory, and a keeper over it that reads no whole
+//! table.
 ghost use Rattle.std.specs.Prelude.{◌≡◌, ◌≤◌, [], ◌∷◌, false, IfOk, IsTrue};
 ghost use Rattle.jac_io.specs.Faults.{Rose};
 ghost use Rattle.jac_rows.specs.Good.{IsSound};
@@ -13,8 +13,8 @@ use jac_value::{Cells, Id, Memory, Txt, Value};
 use jac_world::Guard;
 use std::alloc::Global;
 
-/// A keeper that tells nothing. It has no whole table and takes no change; every other call is that
-/// of the one within.
+/// A keeper whose contents aren't known. It reads no whole table and takes no change. It passes
+/// every other call on to the inner keeper.
 #[derive(Drop)]
 pub(crate) struct Finder {
     pub within: MemoryKeeper,

@@ -1,4 +1,4 @@
-//! In one world a query that asks for a value reads no whole table.
+//! In one world a query for a value reads no whole table.
 use crate::finder::new_finder;
 use crate::texts::{CALENDAR, app};
 use jac_forms::expr_of;
@@ -18,7 +18,7 @@ fn expression(alloc: Global, text: &str) -> Option<Expr> {
     expr_of(alloc, &tree).ok()
 }
 
-// The expression's value where Bob asks of the raid.
+// The expression's value for Bob, with the raid as `this`.
 fn value_at(alloc: Global, a: &Assignment, text: &str) -> Option<Value> {
     let app = app(alloc, CALENDAR)?;
     let e = expression(alloc, text)?;
@@ -53,7 +53,7 @@ fn a_title_is_counted_without_the_table(rt: HostRuntime) -> Result<(), Fail> {
     Ok(())
 }
 
-// To others the title is another one.
+// For others the title has another value.
 #[test]
 fn a_hidden_title_is_found_and_not_counted(rt: HostRuntime) -> Result<(), Fail> {
     let alloc = rt.alloc();
@@ -83,7 +83,7 @@ fn an_operand_of_or_reads_the_table(rt: HostRuntime) -> Result<(), Fail> {
     Ok(())
 }
 
-// A row without the cell would read as the default, so all are looked at.
+// A row without the cell reads as the default, so the whole table is read.
 #[test]
 fn the_default_reads_the_table(rt: HostRuntime) -> Result<(), Fail> {
     let alloc = rt.alloc();

@@ -1,10 +1,10 @@
-//! The replies that stand ready, as RFC 9112 and RFC 9110 spell them.
+//! The fixed replies, as RFC 9112 and RFC 9110 define them.
 use jac_http::{Fixed, fixed_reply};
 
 const MEMORY: &[u8] =
     b"HTTP/1.1 500 Internal Server Error\r\nContent-Type: text/plain; charset=utf-8\r\nContent-Length: 26\r\nConnection: close\r\n\r\n500 Internal Server Error\n";
 
-// What a HEAD is answered has the length of the body that it doesn't have.
+// The reply to a HEAD has the length of the body that it leaves out.
 const KEEPER: &[u8] =
     b"HTTP/1.1 503 Service Unavailable\r\nContent-Type: text/plain; charset=utf-8\r\nContent-Length: 24\r\nConnection: close\r\n\r\n";
 

@@ -1,4 +1,4 @@
-//! Records that an index has, by a value of theirs.
+//! Records are found in an index by one of their values.
 use jac_index::Index;
 use jac_value::{Id, Txt, Value};
 use std::test::Fail;

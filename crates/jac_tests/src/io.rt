@@ -1,4 +1,4 @@
-//! A sink that is aimed, and a door with one link, in memory.
+//! A sink that is aimed at a file, and a door with one link, in memory.
 use jac_io::{
     AuditSink, Calls, Door, Link, Links, MemoryDoor, MemoryLink, MemorySink, Pieces, Sink,
 };

@@ -1,6 +1,5 @@
-//! Tests of what no run of the program shows: each public call that no command makes once on its
-//! happy path, with an answer that comes from outside. All others are run by the worked cases of
-//! `checks/cases`.
+//! Tests of public functions that no command calls: one successful call of each, with an expected
+//! result from outside the program. The cases of `checks/cases` run all other functions.
 #![tactic(auto)]
 
 #[cfg(test)]

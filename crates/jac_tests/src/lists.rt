@@ -1,4 +1,4 @@
-//! The lists of each crate, made, copied and taken apart where no command does it.
+//! The lists of each crate are made, copied and taken apart, if no command does it.
 use jac_facet::{Facet, Facets, Leaves};
 use jac_forms::Path;
 use jac_io::{Calls, Links, NamedFiles, Pieces};

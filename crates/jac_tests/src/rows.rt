@@ -49,7 +49,7 @@ fn alternatives(alloc: Global) -> Result<Table, Memory> {
     Ok(table)
 }
 
-// Two models, and a record of the second.
+// Two models, and a record of the second one.
 fn state(alloc: Global) -> Result<State, Memory> {
     let table = alternatives(alloc)?;
     let mut tables = Vec::new(alloc);

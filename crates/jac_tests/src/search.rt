@@ -1,5 +1,5 @@
-//! What the keeper in memory and a work find by a value, and that a query under all assignments
-//! which asks for one reads no whole table.
+//! What the keeper in memory and a work find by a value. A query for a value, under all
+//! assignments, reads no whole table.
 ghost use Rattle.std.specs.Prelude.{◌≡◌, ◌<◌, IsTrue};
 
 use crate::finder::{Finder, memory, new_finder};
@@ -19,7 +19,7 @@ use std::process::Abort;
 use std::sync::ledger::{Blank, Ledger};
 use std::test::Fail;
 
-// How many alternatives the events of this title have.
+// How many alternatives the events with this title have.
 fn found(alloc: Global, keeper: &mut MemoryKeeper, title: &str) -> Result<usize, Stop>
     requires { IsTrue keeper.old.store.attached }
     ensures { IsTrue keeper.new.store.attached }
@@ -39,7 +39,7 @@ fn a_keeper_finds_all_alternatives_of_a_record(rt: HostRuntime) -> Result<(), Fa
     Ok(())
 }
 
-// How many rows of this title a work has, before and after the event is gone from it.
+// How many rows with this title a work has, before and after the event is deleted in it.
 fn found_in_work(alloc: Global, keeper: &mut Finder) -> Result<(usize, usize), Stop>
     requires { IsTrue keeper.old.within.store.attached }
 {
@@ -81,8 +81,7 @@ fn nobody() -> Ctx {
     }
 }
 
-// The answers under the empty path condition, where the texts are those of an application and a
-// query.
+// The answers of this query in the calendar, under the empty path condition.
 fn answers<L: Ledger>(
     alloc: Global,
     text: &str,
@@ -116,7 +115,7 @@ fn answers_over<L: Ledger>(
     Ok(answers)
 }
 
-// Whether the only answer is the event, where its title is shown.
+// Whether the event is the only answer, with the guard that its title is shown.
 fn finds_raid<L: Ledger>(alloc: Global, text: &str, splits: &mut Steps<L>) -> bool {
     match answers(alloc, text, splits) {
         Some(Ok(answers)) => is_raid(&answers),

@@ -8,10 +8,10 @@ use std::test::Fail;
 
 const KINDS: [Kind; 3] = [Kind::Text, Kind::Ref(0), Kind::Bool];
 
-// The label 98312 in 16 bytes, and that it is shown.
+// The label 98312 in 16 bytes, and its sign: it is shown.
 const JVARS: [u8; 17] = [0, 0, 0, 0, 0, 0, 0, 0, 0, 0, 0, 0, 0, 1, 0x80, 8, 1];
 
-// A text of 4 bytes, the id 4096, false.
+// A text of 4 bytes, the id 4096, and false.
 const BODY: [u8; 33] = [
     2, 0, 0, 0, 0, 0, 0, 0, 4, b'r', b'a', b'i', b'd', 4, 1, 0, 0, 0, 0, 0, 0, 0, 0, 0, 0, 0, 0, 0,
     0, 0x10, 0, 3, 0,
@@ -58,7 +58,7 @@ fn an_id_is_one_of_its_model(rt: HostRuntime) -> Result<(), Fail> {
     Ok(())
 }
 
-// The id 12289 of the second model around the record 4096: 4096 * 2^52 is 2^64.
+// The id 12289 of the second model, around the record 4096: 4096 * 2^52 is 2^64.
 const AROUND: [u8; 16] = [0, 0, 0, 0, 0, 0, 0, 1, 0, 0, 0, 0, 0, 0, 0x30, 1];
 
 #[test]
@@ -71,8 +71,9 @@ fn an_id_is_made_around_another(rt: HostRuntime) -> Result<(), Fail> {
     Ok(())
 }
 
-// A reference to it, and three whose bytes 2, 8 and 9 are those of no id: too great a record, and
-// too great an id that is around none.
+// A reference to it, and three in which byte 2, 8 or 9 of the id makes it invalid. In the first of
+// the three, the record around which it was made is too great. In the others, the id is around no
+// record, and it is too great.
 const REFERENCE: [u8; 18] = [4, 1, 0, 0, 0, 0, 0, 0, 0, 1, 0, 0, 0, 0, 0, 0, 0x30, 1];
 
 const AT_2: [u8; 18] = [4, 1, 0, 0, 1, 0, 0, 0, 0, 1, 0, 0, 0, 0, 0, 0, 0x30, 1];

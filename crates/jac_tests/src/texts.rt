@@ -1,5 +1,5 @@
-//! An application that is written again, the printing of texts, the faults of a tag, and the schema
-//! that a store keeps.
+//! Tests that write an application out again, print texts, find the faults of a tag, and make the
+//! schema that a store keeps.
 use jac_check::check;
 use jac_forms::{FormFault, Want, app_of};
 use jac_lang::App;
@@ -26,7 +26,7 @@ pub(crate) fn app(alloc: Global, text: &str) -> Option<App> {
     app_of(alloc, &tree).ok()
 }
 
-// The text that an application is written as.
+// The application's text, as it is written out.
 fn written(alloc: Global, app: &App) -> Option<Bytes> {
     let tree = tree_of(alloc, app).ok()?;
     if !nests_within(&tree, 64) {
@@ -70,7 +70,7 @@ fn markup_is_escaped(rt: HostRuntime) -> Result<(), Fail> {
     Ok(())
 }
 
-// Whether the text is refused for its tag at 0, which is itself no expression.
+// Whether the text is refused because the tag at 0 itself is no expression.
 fn is_no_expression(alloc: Global, text: &Txt) -> bool {
     match expand(alloc, text) {
         Err(TemplateFault::Form(0, FormFault::Form { path, want })) => {

@@ -1,5 +1,5 @@
-//! Why a label is hidden, where the labels that are shown aren't settled, and a reason that is
-//! another's.
+//! Why a label is hidden if the shown labels aren't settled, and a reason that belongs to another
+//! label.
 ghost use Rattle.std.specs.Prelude.{◌≡◌, ◌<◌, ◌≤◌, ◌*◌, ◌∷◌, [], IfOk, IsTrue};
 ghost use Rattle.std.specs.List.{AllByRecursion};
 ghost use Rattle.jac_rows.specs.declared.row.Row.{Row as Kept};
@@ -21,16 +21,16 @@ use std::process::Abort;
 use std::sync::ledger::{Blank, Ledger};
 use std::test::Fail;
 
-// A note is shown where some note reads as `key`.
+// A note is shown if some note reads as `key`.
 const KEY: &str = "(app (model Note (fields (body text)) (group (guards (body \"locked\")) \
     (policy (some (from ((n Note)) (eq (get Note body n) \"key\") key))))))";
 
-// A note is shown where it says `b`, or where it is the only one that can be read.
+// A note is shown if it says `b`, or if it is the only one that can be read.
 const ONE: &str = "(app (model Note (fields (body text)) (group (guards (body \"locked\")) \
     (policy (or (eq (get Note body this) \"b\") \
     (eq (count (from ((n Note)) (not (eq (get Note body n) \"locked\")) key)) 1))))))";
 
-// One of the alternatives of a note: that where the label has this sign.
+// The alternative of a note for this sign of its label.
 fn note(alloc: Global, id: u128, sign: bool, body: &str) -> Result<Row, Memory>
     requires { id ≤ 8192 }
     ensures { IfOk result (λ (r : Kept). (r.id ≡ id) × (r.guard ≡ (id * 8, sign) ∷ [])) }
@@ -78,7 +78,7 @@ fn app(alloc: Global, text: &str) -> Option<App> {
     app_of(alloc, &tree).ok()
 }
 
-// What stands against the label.
+// The reason against showing the label, if there is one.
 fn found<L: Ledger>(
     alloc: Global,
     text: &str,
@@ -97,7 +97,7 @@ fn found<L: Ledger>(
     why(&mut work, &context, hidden, evaluations).ok()
 }
 
-// Whether the reason stands against the second note.
+// Whether the reason holds for the second note.
 fn stands<L: Ledger>(
     alloc: Global,
     labels: &Assignment,

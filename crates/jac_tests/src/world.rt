@@ -1,4 +1,4 @@
-//! Guards that are made of their pairs and compared, and what is left of one that is cut.
+//! Guards are made of pairs and compared. Then labels are cut from a guard.
 use jac_world::{Guard, Label};
 use std::test::Fail;
 
