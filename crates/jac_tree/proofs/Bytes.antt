@@ -28,7 +28,7 @@ high_escaped b h = grind (arith, nat_tests)
 pub escaped_small : (e x : ℕ) → escape_meaning e ≡ Some x → (e < 128) × (x < 128)
 escaped_small e x h = grind (arith, nat_tests)
 
--- the first byte of a character: the character itself, or one above ASCII
+-- The first byte of a character: the character itself if it is ASCII, or else a byte above ASCII.
 pub record First (c : ℕ) : Type 0 where
   pub byte : ℕ
   pub front : take 1 (encode_utf8 c) ≡ byte ∷ []
@@ -50,7 +50,7 @@ first_of c = elim (cases_lt c 128) [
   | inr big ↦ first_from c (encode_utf8 c) refl big
 ]
 
--- what is neither white nor of an atom in the character isn't in its first byte
+-- If a character isn't whitespace, neither is its first byte. The same goes for bytes of atoms.
 pub first_white : (c : ℕ) (f : First c) → is_white c ≡ false → is_white f.byte ≡ false
 first_white c f w = elim f.kind [ inl e ↦ subst (λ z. is_white z ≡ false) (sym e) w | inr h ↦ high_white _ h ]
 
@@ -63,7 +63,8 @@ first_escaped c f w = elim f.kind [ inl e ↦ subst (λ z. escape_meaning z ≡ 
 pub first_other : (c n : ℕ) (f : First c) → n < 128 → c ≢ n → f.byte ≢ n
 first_other c n f small ne q = elim f.kind [ inl e ↦ ne (sym e ∙ q) | inr h ↦ omega arith ]
 
--- each byte of a character that is neither a quote nor a backslash is plain
+-- Bytes above ASCII are plain. Below: each byte of a character is, unless the character is a quote
+-- or a backslash.
 all_high : (xs : List ℕ) → ((k : ℕ) → k < length xs → 128 ≤ get_or xs k 0) → are_plain_bytes xs ≡ true
 all_high [] h = refl
 all_high (x ∷ xs) h =

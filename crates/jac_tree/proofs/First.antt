@@ -1,4 +1,4 @@
--- Bytes have one fault.
+-- Bytes have at most one fault.
 use Rattle.std.proofs.Common.{◌≡◌, ◌⊎◌, inl, inr, ℕ, ◌+◌, ◌<◌, ◌≤◌, List, ◌++◌, length, take, drop, refl, sym, ◌∙◌, ap, subst, arith, append_assoc, IsUtf8}
 use Rattle.std.proofs.Math.Seq.{take-length}
 use Rattle.std.proofs.lemmas.Bool.{cases_lt}
@@ -12,7 +12,7 @@ use Rattle.jac_tree.specs.Grammar.{Spells, IsBegunDocument, IsBegunWithin, IsStr
 use Rattle.jac_tree.specs.Plain.{PlainTree, nesting}
 use Rattle.jac_tree.specs.Reading.{HasFault}
 
--- what begins a document begins with what begins it
+-- A shorter prefix of the bytes, followed by the rest of the longer prefix, is the longer prefix.
 shorter : (bytes rest : List ℕ) (m n : ℕ) → m ≤ n → take m bytes ++ (drop m (take n bytes) ++ rest) ≡ take n bytes ++ rest
 shorter bytes rest m n h =
     sym (append_assoc (take m bytes) (drop m (take n bytes)) rest)
@@ -30,7 +30,7 @@ any_begun bytes (rest, t, s, k) = (rest, t, s)
 whole : (bytes : List ℕ) → IsBegunWithin 64 bytes → IsBegunWithin 64 (take (length bytes) bytes)
 whole bytes h = subst (λ z. IsBegunWithin 64 z) (sym (take-length bytes)) h
 
--- two places at which bytes first fail are one
+-- The place of the first byte that fails is unique.
 same_place : (bytes : List ℕ) (m n : ℕ) → IsBegunWithin 64 (take m bytes) → IsBegunWithin 64 (take n bytes)
     → ¬ (IsBegunWithin 64 (take (m + 1) bytes)) → ¬ (IsBegunWithin 64 (take (n + 1) bytes)) → m ≡ n
 same_place bytes m n h k p q = elim (cases_lt m n) [
@@ -78,7 +78,7 @@ one_fault bytes (faults.Unclosed m) (faults.Stray k) n u h f = absurd (no_end by
 one_fault bytes (faults.Unclosed m) (faults.Deep k) n u h f = absurd (no_end bytes k m f.1.within f.1.deeper h)
 one_fault bytes (faults.Unclosed m) (faults.Unclosed k) n u h f = inl (ap faults.Unclosed (h.at_end ∙ sym f.1.at_end))
 
--- a text that spells a tree of at most 64 levels has no fault
+-- A text that spells a tree of at most 64 levels has no fault.
 pub faultless : (bytes : List ℕ) (t : PlainTree) (fault : TreeFault) → length bytes ≤ 1048576 → IsUtf8 bytes → Spells bytes t → nesting t ≤ 64 → IsFaultOf bytes fault → ⊥
 faultless bytes t faults.Memory n u s k f = f
 faultless bytes t faults.Long n u s k f = omega arith
@@ -87,7 +87,7 @@ faultless bytes t (faults.Stray m) n u s k f = f.1.after (drop (m + 1) bytes, t,
 faultless bytes t (faults.Deep m) n u s k f = f.1.deeper (drop (m + 1) bytes, t, subst (λ z. Spells z t) (sym (take-append-drop (m + 1) bytes)) s, k)
 faultless bytes t (faults.Unclosed m) n u s k f = f.1.none t s
 
--- the two faults that are found before any tree is read
+-- The two faults that are found before a tree is read: the length, and the encoding.
 pub long_fault : (bytes : List ℕ) (fault : TreeFault) → 1048576 < length bytes → IsFaultOf bytes fault → faults.Long ≡ fault
 long_fault bytes faults.Long n f = refl
 long_fault bytes faults.Memory n f = absurd f

@@ -1,4 +1,4 @@
--- What each byte makes of the ways to complete a document.
+-- How each byte changes the ways to complete a document.
 use Rattle.std.proofs.Common.{◌≡◌, ◌≢◌, ◌↔◌, ◌⊎◌, inl, inr, ℕ, ◌+◌, ◌≤◌, Bool, true, false, ◌&&◌, List, [], ◌∷◌, ◌++◌, length, Some, None, refl, sym, ◌∙◌, ap, subst, arith, append_assoc, append-nil, length-append, if◌then◌else◌, max}
 use Rattle.jac_tree.specs.Grammar.{is_white, skip, are_atom_bytes, begins_with_atom_byte, is_plain_byte, escape_meaning, PieceAt, PiecesAt, TreeAt, TreesAt}
 use Rattle.jac_value.specs.Names.{is_atom_byte}
@@ -30,7 +30,7 @@ trees_front : (ts : PlainTrees) (x y to : List ℕ) → skip x ≡ skip y → Tr
 trees_front none x y to e h = sym e ∙ h
 trees_front (more t ts) x y to e (rest, h, k) = (rest, subst (λ z. TreeAt t z rest) e h, k)
 
--- white is passed over
+-- Whitespace is skipped.
 pub between_white : (gs : List PlainTrees) (b : ℕ) (bs : List ℕ) (t : PlainTree) → is_white b ≡ true → Between gs (b ∷ bs) t ↔ Between gs bs t
 between_white [] b bs t w =
     let e = skip_white b bs w in
@@ -39,7 +39,7 @@ between_white (g ∷ gs) b bs t w =
     let e = skip_white b bs w in
     (λ (ts, to, h, k). (ts, to, trees_front ts _ _ to e h, k), λ (ts, to, h, k). (ts, to, trees_front ts _ _ to (sym e) h, k))
 
--- a tree begins with the bytes, and they complete the document of t
+-- The bytes begin with a tree, and complete the document of `t`.
 abbrev pub Item : List PlainTrees → List ℕ → PlainTree → Type 0
 Item gs bytes t = (u : PlainTree) × (to : List ℕ) × TreeAt u bytes to × After gs u to t
 
@@ -48,7 +48,7 @@ item_from : (g : PlainTrees) (gs : List PlainTrees) (ts : PlainTrees) (b : ℕ) 
 item_from g gs none b bytes bs to t e ne h k = let q : b ≡ 41 = cc in absurd (ne q)
 item_from g gs (more u ts) b bytes bs to t e ne (rest, h, i) k = (u, rest, subst (λ z. TreeAt u z rest) e h, (ts, to, i, k))
 
--- a byte that is neither white nor a closing bracket begins a tree
+-- A byte that is neither whitespace nor a closing bracket begins a tree.
 pub between_item : (gs : List PlainTrees) (b : ℕ) (bs : List ℕ) (t : PlainTree) → is_white b ≡ false → b ≢ 41 → Between gs (b ∷ bs) t ↔ Item gs (b ∷ bs) t
 between_item [] b bs t w ne =
     let e = skip_other b bs w in
@@ -59,7 +59,7 @@ between_item (g ∷ gs) b bs t w ne =
       λ (u, rest, h, (ts, to, i, k)). (more u ts, to, (rest, subst (λ z. TreeAt u z rest) (sym e) h, i), k),
     )
 
--- what the first byte of a tree tells of it
+-- The first byte that a tree of each kind has.
 abbrev pub Begins : PlainTree → ℕ → Type 0
 Begins (atom a) b = is_atom_byte b ≡ true
 Begins (text x) b = b ≡ 34
@@ -76,7 +76,7 @@ begins (atom a) b bs to (ne, all, e, f) = atom_begins a to b bs ne all e
 begins (text x) b bs to (inside, e, h) = cc
 begins (list ts) b bs to (inside, e, h) = cc
 
--- an opening bracket
+-- An opening bracket begins a list.
 list_from : (gs : List PlainTrees) (u : PlainTree) (bs to : List ℕ) (t : PlainTree)
     → Begins u 40 → TreeAt u (40 ∷ bs) to → After gs u to t → Between (none ∷ gs) bs t
 list_from gs (atom a) bs to t s h k = cc
@@ -91,7 +91,7 @@ item_list gs bs t = (
   λ (us, to, h, k). (list us, to, (bs, refl, h), k),
 )
 
--- a quote
+-- A quote begins a text.
 text_from : (gs : List PlainTrees) (u : PlainTree) (bs to : List ℕ) (t : PlainTree)
     → Begins u 34 → TreeAt u (34 ∷ bs) to → After gs u to t → InsideText gs [] bs t
 text_from gs (atom a) bs to t s h k = cc
@@ -106,7 +106,7 @@ item_text gs bs t = (
   λ (x, to, h, k). (text x, to, (bs, refl, h), k),
 )
 
--- a byte of an atom
+-- A byte of an atom begins an atom.
 atom_from : (gs : List PlainTrees) (u : PlainTree) (b : ℕ) (bs to : List ℕ) (t : PlainTree)
     → is_atom_byte b ≡ true → Begins u b → TreeAt u (b ∷ bs) to → After gs u to t → InsideAtom gs (b ∷ []) bs t
 atom_from gs (text x) b bs to t w s h k = let q : is_atom_byte 34 ≡ true = subst (λ z. is_atom_byte z ≡ true) s w in cc
@@ -127,7 +127,7 @@ item_atom gs b bs t w = (
   λ (a, to, all, e, f, k). (atom (b ∷ a), to, (λ q. cc, both_true _ _ w all, ap (λ z. b ∷ z) e, f), k),
 )
 
--- any other byte begins no tree
+-- Any other byte begins no tree.
 pub none_from : (u : PlainTree) (b : ℕ) → b ≢ 34 → b ≢ 40 → is_atom_byte b ≡ false → Begins u b → ⊥
 none_from (atom a) b n m w s = cc
 none_from (text x) b n m w s = n s
@@ -136,7 +136,7 @@ none_from (list ts) b n m w s = m s
 pub item_none : (gs : List PlainTrees) (b : ℕ) (bs : List ℕ) (t : PlainTree) → b ≢ 34 → b ≢ 40 → is_atom_byte b ≡ false → Item gs (b ∷ bs) t → ⊥
 item_none gs b bs t n m w (u, to, h, k) = none_from u b n m w (begins u b bs to h)
 
--- the innermost list ends
+-- The innermost list ends.
 end_from : (g : PlainTrees) (gs : List PlainTrees) (ts : PlainTrees) (bs to : List ℕ) (t : PlainTree)
     → TreesAt ts (41 ∷ bs) to → After gs (list (onto g ts)) to t → After gs (list (onto g none)) bs t
 end_from g gs none bs to t h k =
@@ -154,7 +154,7 @@ between_end g gs bs t = (
 pub between_no_end : (bs : List ℕ) (t : PlainTree) → Between [] (41 ∷ bs) t → ⊥
 between_no_end bs t (u, to, h, k) = none_from u 41 (λ e. omega arith) (λ e. omega arith) refl (begins u 41 bs to h)
 
--- inside an atom
+-- Inside an atom, a byte of an atom continues it.
 atom_more_from : (gs : List PlainTrees) (a m : List ℕ) (b : ℕ) (bs to : List ℕ) (t : PlainTree)
     → is_atom_byte b ≡ true → are_atom_bytes m ≡ true → b ∷ bs ≡ m ++ to → begins_with_atom_byte to ≡ false → After gs (atom (a ++ m)) to t
     → InsideAtom gs (a ++ b ∷ []) bs t
@@ -181,7 +181,7 @@ atom_end_from gs a (x ∷ m) bytes to t w all e k =
     let q : is_atom_byte x ≡ false = subst (λ z. begins_with_atom_byte z ≡ false) e w in
     let r : is_atom_byte x ≡ true = (both _ _ all).0 in cc
 
--- an atom ends where no byte of an atom follows
+-- An atom ends if no byte of an atom follows.
 pub atom_end : (gs : List PlainTrees) (a bytes : List ℕ) (t : PlainTree)
     → begins_with_atom_byte bytes ≡ false → InsideAtom gs a bytes t ↔ After gs (atom a) bytes t
 atom_end gs a bytes t w = (
@@ -189,7 +189,7 @@ atom_end gs a bytes t w = (
   λ k. ([], bytes, refl, refl, w, subst (λ z. After gs (atom z) bytes t) (sym (append-nil a)) k),
 )
 
--- inside a text
+-- Inside a text, a quote is no piece.
 pub piece_quote : (z : ℕ) (bs rest : List ℕ) → PieceAt z (34 ∷ bs) rest → ⊥
 piece_quote z bs rest (inl (p, e)) =
     let q : z ≡ 34 = cc in
@@ -254,7 +254,7 @@ text_plain_all gs x (b ∷ p) bs t w =
       λ h. one.1 (rest.1 (subst (λ z. InsideText gs z bs t) (sym e) h)),
     )
 
--- an escape
+-- A piece that begins with a backslash is an escape.
 escape_piece : (z e : ℕ) (bs rest : List ℕ) → PieceAt z (92 ∷ e ∷ bs) rest → (escape_meaning e ≡ Some z) × (rest ≡ bs)
 escape_piece z e bs rest (inl (p, q)) =
     let s : z ≡ 92 = cc in
@@ -286,7 +286,7 @@ pub text_no_escape : (gs : List PlainTrees) (x : List ℕ) (e : ℕ) (bs : List 
     → escape_meaning e ≡ None → InsideText gs x (92 ∷ e ∷ bs) t → ⊥
 text_no_escape gs x e bs t w (y, to, h, k) = no_escape_from y e bs to w h
 
--- after the tree of the document
+-- After the document's tree, whitespace is skipped.
 pub complete_white : (b : ℕ) (bs : List ℕ) → is_white b ≡ true → (skip (b ∷ bs) ≡ []) ↔ (skip bs ≡ [])
 complete_white b bs w = let e = skip_white b bs w in (λ h. sym e ∙ h, λ h. e ∙ h)
 
@@ -304,7 +304,7 @@ inside g u ts =
     let n : nesting_all (more u ts) ≤ nesting_all (onto g (more u ts)) = least_onto g (more u ts) in
     omega arith
 
--- each list that stands open is one level of the document's tree
+-- Each open list is one level of the document's tree.
 pub after_deep : (gs : List PlainTrees) (u : PlainTree) (bytes : List ℕ) (t : PlainTree) → After gs u bytes t → nesting u + length gs ≤ nesting t
 after_deep [] u bytes t (e, f) = let q : nesting t ≡ nesting u = ap nesting f in omega arith
 after_deep (g ∷ gs) u bytes t (ts, to, h, k) =
@@ -312,7 +312,7 @@ after_deep (g ∷ gs) u bytes t (ts, to, h, k) =
     let m : nesting u ≤ nesting_all (onto (more u g) ts) = inside g u ts in
     omega arith
 
--- the last list of the stack is the innermost one
+-- The last list of the stack is the innermost one.
 pub open_lists-push : (stack : List Trees) (ts : Trees) → open_lists (stack ++ ts ∷ []) ≡ plain_all ts ∷ open_lists stack
 open_lists-push [] ts = refl
 open_lists-push (us ∷ stack) ts = ap (λ z. z ++ plain_all us ∷ []) (open_lists-push stack ts)
@@ -324,7 +324,7 @@ length-open_lists (ts ∷ stack) =
     let m = length-append (open_lists stack) (plain_all ts ∷ []) in
     omega arith
 
--- the most of two lists, one turned round before the other
+-- The nesting of a list reversed before another is the larger of their nestings.
 pub nesting-onto : (g ts : PlainTrees) → nesting_all (onto g ts) ≡ max (nesting_all g) (nesting_all ts)
 nesting-onto none ts = omega arith
 nesting-onto (more u g) ts =

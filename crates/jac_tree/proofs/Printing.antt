@@ -1,4 +1,4 @@
--- What a tree is printed as spells it.
+-- The printed text of a tree spells the tree.
 use Rattle.std.proofs.Common.{◌≡◌, ◌≢◌, inl, inr, ℕ, suc, ◌<◌, ◌≤◌, true, false, List, [], ◌∷◌, ◌++◌, length, get_or, refl, sym, ◌∙◌, ap, subst, arith, append_assoc, append-nil, encode_utf8}
 use Rattle.std.proofs.lemmas.Bool.{cases_lt, cases_eq}
 use Rattle.std.proofs.lemmas.Bool.Decides.{nat_tests}
@@ -12,7 +12,7 @@ use Rattle.jac_tree.specs.Printed.{text_piece, text_pieces, printed_tree, printe
 use Rattle.jac_tree.proofs.Bytes.{plain_other}
 use Rattle.jac_tree.proofs.Moves.{both, skip_other}
 
--- a byte without an escape
+-- A byte without an escape.
 abbrev pub IsRaw : ℕ → Type 0
 IsRaw b = (b ≢ 10) × (b ≢ 13) × (b ≢ 9) × (b ≢ 92) × (b ≢ 34)
 
@@ -32,7 +32,7 @@ high_pieces (x ∷ xs) h =
     let high : 128 ≤ x = h 0 (omega arith) in
     ap (λ z. z ++ text_pieces xs) (raw_piece x (high_raw x high)) ∙ ap (λ z. x ∷ z) (high_pieces xs (λ k below. h (suc k) (omega arith)))
 
--- a character without an escape is its own piece
+-- A character without an escape is its own piece.
 pub raw_pieces : (c : ℕ) → IsRaw c → text_pieces (encode_utf8 c) ≡ encode_utf8 c
 raw_pieces c raw = elim (cases_lt c 128) [
   | inl low ↦ subst (λ z. text_pieces z ≡ z) (sym (encode_ascii c low)) (append-nil (text_piece c) ∙ raw_piece c raw)
@@ -110,14 +110,14 @@ printed_spells t h =
     let e : skip (printed_tree t) ≡ printed_tree t ++ [] = ap skip (sym (append-nil (printed_tree t))) ∙ skip_printed t [] h in
     ([], subst (λ z. TreeAt t z []) (sym e) (tree_at t [] h refl), refl)
 
--- a character's pieces, and then those of the rest
+-- The pieces of a character, and then those of the rest.
 pub pieces_put : (out front rest left : List ℕ) → left ≡ front ++ rest → (out ++ text_pieces front) ++ text_pieces rest ≡ out ++ text_pieces left
 pieces_put out front rest left e =
     append_assoc out (text_pieces front) (text_pieces rest)
     ∙ ap (λ z. out ++ z) (sym (pieces_append front rest))
     ∙ ap (λ z. out ++ text_pieces z) (sym e)
 
--- a tree that bytes spell has atoms alone where atoms stand
+-- In a tree that bytes spell, each atom has one or more bytes, all of them bytes of atoms.
 mutual
   tree_atoms : (t : PlainTree) (from to : List ℕ) → TreeAt t from to → HasAtoms t
   tree_atoms (atom a) from to (ne, all, e, f) = (ne, all)

@@ -1,4 +1,4 @@
--- What a reader that stands at a place of a text tells of the text.
+-- What the state of a reader at a place of a text implies about the text.
 use Rattle.std.proofs.Common.{◌≡◌, ◌↔◌, ℕ, ◌+◌, ◌<◌, ◌≤◌, List, [], ◌∷◌, ◌++◌, length, take, drop, get_or, add-zero, refl, sym, ◌∙◌, ap, subst, arith, append_assoc, append-nil, length-drop, length-append, encode_utf8}
 use Rattle.std.proofs.Math.Seq.{take-add, take-append_seam, drop-append_seam}
 use Rattle.std.proofs.lemmas.List.{take-append-le, take-append-drop, drop-drop, get_or-drop}
@@ -11,11 +11,11 @@ use Rattle.jac_tree.specs.Plain.{PlainTree, PlainTrees, nesting}
 use Rattle.jac_tree.specs.Reading.{Completes, StepsReader, FaultsFor, HasFault, IsShallow}
 use Rattle.jac_tree.proofs.States.{can_end}
 
--- the reader has read the first `at` bytes of the text
+-- The reader has read the first `at` bytes of the text.
 abbrev pub Reading : List PlainTrees → Mode → List ℕ → ℕ → Type 0
 Reading gs mode text at = (rest : List ℕ) (t : PlainTree) → Completes gs mode rest t ↔ Spells (take at text ++ rest) t
 
--- a place moves over the bytes p
+-- The place moves past the bytes `p`.
 pub past : (text p q : List ℕ) (at : ℕ) → drop at text ≡ p ++ q → drop (at + length p) text ≡ q
 past text p q at e = sym (drop-drop (length p) at text) ∙ ap (drop (length p)) e ∙ drop-append_seam p q
 
@@ -35,7 +35,7 @@ reading_step gs hs mode next text p q at e r s rest t =
       λ h. two.0 (one.1 (subst (λ z. Spells z t) (sym same) h)),
     )
 
--- the same, where the length is a number of its own
+-- The same, with the length given as a number.
 pub reading_step_by : (gs hs : List PlainTrees) (mode next : Mode) (text p q : List ℕ) (at n : ℕ) → n ≡ length p → drop at text ≡ p ++ q
     → Reading gs mode text at → StepsReader gs mode p hs next → Reading hs next text (at + n)
 reading_step_by gs hs mode next text p q at n m e r s =
@@ -44,7 +44,7 @@ reading_step_by gs hs mode next text p q at n m e r s =
 pub past_by : (text p q : List ℕ) (at n : ℕ) → n ≡ length p → drop at text ≡ p ++ q → q ≡ drop (at + n) text
 past_by text p q at n m e = sym (ap (λ z. drop (at + z) text) m ∙ past text p q at e)
 
--- the next byte
+-- A character has at least one byte.
 some_byte : (c : ℕ) → 1 ≤ length (encode_utf8 c)
 some_byte c = omega (arith, length-encode c, (len_utf8_bounds c).0)
 
@@ -100,7 +100,7 @@ step_fault gs mode text q c at faults.Long n e r s f = f
 step_fault gs mode text q c at (faults.NotUtf8 m) n e r s f = f
 step_fault gs mode text q c at (faults.Unclosed m) n e r s f = absurd f
 
--- at the end
+-- If no byte is left, the place is the length of the text.
 at_end : (text : List ℕ) (at : ℕ) → at ≤ length text → drop at text ≡ [] → at ≡ length text
 at_end text at n e = omega (arith, ap length e, length-drop at text)
 
@@ -124,7 +124,7 @@ end_fault gs mode text at fault n e r s same f =
       none = λ t h. f t ((reads_end gs mode text at t e r).0 h);
     })
 
--- a text that spells a tree has none of the faults
+-- A text that spells a tree has no fault.
 begins_with : (bytes : List ℕ) (at : ℕ) (t : PlainTree) → Spells bytes t → Spells (take at bytes ++ drop at bytes) t
 begins_with bytes at t h = subst (λ z. Spells z t) (sym (take-append-drop at bytes)) h
 

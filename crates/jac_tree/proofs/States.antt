@@ -1,4 +1,4 @@
--- What each character makes of a reader.
+-- How each character changes the state of a reader.
 use Rattle.std.proofs.Common.{◌≡◌, ◌≢◌, ◌↔◌, inl, inr, ℕ, ◌+◌, ◌<◌, ◌≤◌, true, false, List, [], ◌∷◌, ◌++◌, length, take, Some, None, refl, sym, ◌∙◌, ap, subst, arith, length-append, string_bytes, encode_utf8, max}
 use Rattle.std.proofs.lemmas.Str.{encode_ascii}
 use Rattle.jac_tree.specs.declared.read.Mode.{Mode}
@@ -22,7 +22,7 @@ use Rattle.jac_tree.proofs.Moves.{between_white, between_item, item_list, item_t
 pub chain : {A B C : Type 0} → A ↔ B → B ↔ C → A ↔ C
 chain p q = (λ a. q.0 (p.0 a), λ c. p.1 (q.1 c))
 
--- the stack, where the last list was put on it or taken off
+-- The open lists after a list is pushed onto the stack, or before it is popped.
 pub opened : (all rest : List Trees) (ts : Trees) → all ≡ rest ++ ts ∷ [] → open_lists all ≡ plain_all ts ∷ open_lists rest
 opened all rest ts e = ap open_lists e ∙ open_lists-push rest ts
 
@@ -33,7 +33,7 @@ none_open (ts ∷ stack) e = absurd (omega arith)
 pub grown : (fs : List PlainTrees) (u v : Tree) (ts us : Trees) → u ≡ v → ts ≡ us → more (plain u) (plain_all ts) ∷ fs ≡ more (plain v) (plain_all us) ∷ fs
 grown fs u v ts us p q = ap (λ z. more (plain z) (plain_all ts) ∷ fs) p ∙ ap (λ z. more (plain v) (plain_all z) ∷ fs) q
 
--- settle
+-- A tree that ends inside an open list becomes the last tree of that list.
 pub settles : (gs hs fs : List PlainTrees) (g : PlainTrees) (u : PlainTree) → gs ≡ g ∷ fs → hs ≡ more u g ∷ fs
     → (rest : List ℕ) (t : PlainTree) → After gs u rest t ↔ Between hs rest t
 settles gs hs fs g u p q rest t =
@@ -54,12 +54,12 @@ pub shallow_few : (gs : List PlainTrees) → AreShallow gs → length gs ≤ 64
 shallow_few [] h = omega arith
 shallow_few (g ∷ gs) (h, k) = omega arith
 
--- white
+-- Whitespace is skipped.
 pub white_step : (gs : List PlainTrees) (c : ℕ) → is_white c ≡ true → StepsReader gs (modes.Outside places.Open) (encode_utf8 c) gs (modes.Outside places.Open)
 white_step gs c w rest t =
     subst (λ z. Between gs (z ++ rest) t ↔ Between gs rest t) (sym (encode_ascii c (white_small c w))) (between_white gs c rest t w)
 
--- a closing bracket
+-- A closing bracket ends the innermost list.
 pub close_step : (gs hs fs : List PlainTrees) (g ts : PlainTrees) (place : Place) → gs ≡ g ∷ fs → ts ≡ onto g none
     → Settles fs (list ts) hs place → StepsReader gs (modes.Outside places.Open) (41 ∷ []) hs (modes.Outside place)
 close_step gs hs fs g ts place p q s rest t =
@@ -78,7 +78,7 @@ close_shallow gs fs g ts p q h =
 pub close_stuck : (gs : List PlainTrees) → gs ≡ [] → IsStuck gs (modes.Outside places.Open) (41 ∷ [])
 close_stuck gs p rest t h = between_no_end rest t (subst (λ z. Between z (41 ∷ rest) t) p h)
 
--- an opening bracket
+-- An opening bracket begins a list.
 pub opens : (gs : List PlainTrees) (rest : List ℕ) (t : PlainTree) → Between gs (40 ∷ rest) t ↔ Between (none ∷ gs) rest t
 opens gs rest t = chain (between_item gs 40 rest t refl (λ e. omega arith)) (item_list gs rest t)
 
@@ -88,14 +88,14 @@ open_step gs hs p rest t = subst (λ z. Between gs (40 ∷ rest) t ↔ Between z
 pub open_shallow : (gs hs : List PlainTrees) → hs ≡ none ∷ gs → length gs < 64 → AreShallow gs → AreShallow hs
 open_shallow gs hs p n h = let k : AreShallow (none ∷ gs) = (omega arith, h) in subst AreShallow (sym p) k
 
--- a quote
+-- A quote begins a text.
 pub quote_step : (gs : List PlainTrees) (c : ℕ) (x : List ℕ) → c ≡ 34 → x ≡ [] → (rest : List ℕ) (t : PlainTree) → Between gs (encode_utf8 c ++ rest) t ↔ InsideText gs x rest t
 quote_step gs c x q p rest t =
     let e = encode_ascii c (omega arith) ∙ ap (λ z. z ∷ []) q in
     let one = chain (between_item gs 34 rest t refl (λ h. omega arith)) (item_text gs rest t) in
     subst (λ z. Between gs (z ++ rest) t ↔ InsideText gs x rest t) (sym e) (subst (λ z. Between gs (34 ∷ rest) t ↔ InsideText gs z rest t) (sym p) one)
 
--- the first character of an atom
+-- The first character of an atom begins the atom.
 pub atom_step : (gs : List PlainTrees) (c : ℕ) (x : List ℕ) → is_white c ≡ false → c ≢ 41 → is_atom_byte c ≡ true → x ≡ encode_utf8 c
     → (rest : List ℕ) (t : PlainTree) → Between gs (encode_utf8 c ++ rest) t ↔ InsideAtom gs x rest t
 atom_step gs c x w n a p rest t =
@@ -113,7 +113,7 @@ begin_stuck gs c w n m k a rest t h =
     item_none gs b rest t (first_other c 34 f (omega arith) n) (first_other c 40 f (omega arith) m) (first_atom c f a)
     ((between_item gs b rest t (first_white c f w) (first_other c 41 f (omega arith) k)).0 i)
 
--- inside an atom
+-- Inside an atom, a character of an atom continues it.
 pub in_atom_step : (gs : List PlainTrees) (c : ℕ) (x y : List ℕ) → is_atom_byte c ≡ true → y ≡ x ++ encode_utf8 c
     → (rest : List ℕ) (t : PlainTree) → InsideAtom gs x (encode_utf8 c ++ rest) t ↔ InsideAtom gs y rest t
 in_atom_step gs c x y a p rest t =
@@ -125,7 +125,7 @@ begins_first : (xs rest : List ℕ) (b : ℕ) → take 1 xs ≡ b ∷ [] → beg
 begins_first [] rest b e = cc
 begins_first (x ∷ xs) rest b e = let q : x ≡ b = cc in ap is_atom_byte q
 
--- an atom ends before a character that is not of an atom
+-- An atom ends before a character that isn't one of an atom.
 ended : (gs hs : List PlainTrees) (x front rest : List ℕ) (place : Place) (t : PlainTree)
     → begins_with_atom_byte (front ++ rest) ≡ false → Settles gs (atom x) hs place
     → InsideAtom gs x (front ++ rest) t ↔ CompletesPlace hs place (front ++ rest) t
@@ -159,7 +159,7 @@ end_atom_fault gs hs c mode x place at faults.Long n p s k = k
 end_atom_fault gs hs c mode x place at (faults.NotUtf8 m) n p s k = k
 end_atom_fault gs hs c mode x place at (faults.Unclosed m) n p s k = k
 
--- inside a text
+-- Inside a text, a quote ends it.
 pub end_text_step : (gs hs : List PlainTrees) (c : ℕ) (x y : List ℕ) (place : Place) → c ≡ 34 → x ≡ y → Settles gs (text x) hs place
     → (rest : List ℕ) (t : PlainTree) → InsideText gs y (encode_utf8 c ++ rest) t ↔ CompletesPlace hs place rest t
 end_text_step gs hs c x y place p q s rest t =
@@ -178,7 +178,7 @@ backslash_step gs c x p rest t =
     let e = encode_ascii c (omega arith) ∙ ap (λ z. z ∷ []) p in
     subst (λ z. InsideText gs x (z ++ rest) t ↔ InsideText gs x (92 ∷ rest) t) (sym e) (λ h. h, λ h. h)
 
--- after a backslash
+-- The character after a backslash completes the escape.
 pub escape_step : (gs : List PlainTrees) (c b : ℕ) (x y : List ℕ) → escape_meaning c ≡ Some b → y ≡ x ++ encode_utf8 b
     → (rest : List ℕ) (t : PlainTree) → InsideText gs x (92 ∷ encode_utf8 c ++ rest) t ↔ InsideText gs y rest t
 escape_step gs c b x y w p rest t =
@@ -191,7 +191,7 @@ escape_stuck gs c x w rest t h =
     let f = first_of c in
     text_no_escape gs x f.byte rest t (first_escaped c f w) (subst (λ z. InsideText gs x (92 ∷ (z ++ rest)) t) f.front h)
 
--- after the tree of the document
+-- After the document's tree, whitespace is skipped.
 pub complete_step : (gs : List PlainTrees) (u : Tree) (c : ℕ) → is_white c ≡ true → StepsReader gs (modes.Outside (places.Complete u)) (encode_utf8 c) gs (modes.Outside (places.Complete u))
 complete_step gs u c w rest t =
     let e = encode_ascii c (white_small c w) in
@@ -203,7 +203,7 @@ complete_stuck gs u c w rest t (h, k) =
     let f = first_of c in
     complete_other f.byte rest (first_white c f w) (subst (λ z. skip (z ++ rest) ≡ []) f.front h)
 
--- where the bytes end
+-- Empty bytes spell no tree.
 pub no_tree : (u : PlainTree) (to : List ℕ) → TreeAt u [] to → ⊥
 no_tree (atom []) to (n, a, e, f) = n refl
 no_tree (atom (x ∷ a)) to (n, b, e, f) = cc
@@ -256,7 +256,7 @@ pub atom_unfinished : (gs : List PlainTrees) (x : List ℕ) (t : PlainTree) → 
 atom_unfinished [] x t n h = n refl
 atom_unfinished (g ∷ gs) x t n h = open_unfinished (more (atom x) g ∷ gs) t ((atom_end (g ∷ gs) x [] t refl).0 h)
 
--- a document goes on from each reader: the brackets that end the open lists, and the tree that they make
+-- The closing brackets that end the open lists complete a document. Below: its tree.
 closers : List PlainTrees → List ℕ
 closers [] = []
 closers (g ∷ gs) = 41 ∷ closers gs
@@ -283,7 +283,8 @@ unfolding closers
 closers_end [] = refl
 closers_end (g ∷ gs) = refl
 
--- a reader is at the beginning of a document, of a tree that nests at most 64 deep
+-- The bytes that the reader has read can be completed to a document of a tree that nests at most 64
+-- deep.
 abbrev pub CanEnd : List PlainTrees → Mode → Type 0
 CanEnd gs mode = (rest : List ℕ) × (t : PlainTree) × Completes gs mode rest t × (nesting t ≤ 64)
 
@@ -298,7 +299,7 @@ open_can_end (g ∷ gs) (m, h) =
       closed_shallow gs (list (onto g none)) h k,
     )
 
--- so is one in an atom, in a text, and after a backslash
+-- The same for a reader in an atom, in a text, or after a backslash.
 abbrev pub Ends : (List ℕ → PlainTree → Type 0) → Type 0
 Ends Takes = (rest : List ℕ) × (t : PlainTree) × Takes rest t × (nesting t ≤ 64)
 
@@ -337,7 +338,7 @@ can_end gs (modes.InAtom a) h = atom_can_end gs (string_bytes a) h
 can_end gs (modes.InText a) h = text_can_end gs (string_bytes a) h
 can_end gs (modes.InEscape a) h = escape_can_end gs (string_bytes a) h
 
--- the bracket that opens a list inside 64 lists
+-- An opening bracket inside 64 lists is too deep.
 pub open_deep : (gs : List PlainTrees) → 64 ≤ length gs → IsTooDeep gs (modes.Outside places.Open) (40 ∷ [])
 unfolding closers
 open_deep gs n = (

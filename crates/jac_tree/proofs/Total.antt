@@ -1,4 +1,4 @@
--- Each text is a tree or has a fault: a reader of bytes, which takes no memory, finds the one or the other.
+-- Each text spells a tree or has a fault. The proof runs a reader of bytes, which takes no memory.
 use Rattle.std.proofs.Common.{◌≡◌, ◌≢◌, ◌↔◌, ◌⊎◌, inl, inr, ℕ, ◌+◌, ◌<◌, ◌≤◌, Bool, true, false, List, [], ◌∷◌, ◌++◌, length, take, drop, get_or, Option, Some, None, refl, sym, ◌∙◌, ap, subst, arith, add-zero, append_assoc, if◌then◌else◌, append-nil, length-append, max}
 use Rattle.std.proofs.Math.Seq.{take-append_seam, drop-append_seam}
 use Rattle.std.proofs.lemmas.Bool.{cases_lt}
@@ -16,7 +16,7 @@ use Rattle.jac_tree.proofs.Moves.{nesting-onto, between_white, between_item, ite
 use Rattle.jac_tree.proofs.Bytes.{plain_other}
 use Rattle.jac_tree.proofs.States.{chain, Ends, shallow_few, open_can_end, open_deep, atom_can_end, text_can_end, escape_can_end, opens, shallow_more, open_unfinished, text_unfinished, escape_unfinished, atom_unfinished}
 
--- where a reader of bytes stands
+-- The states of a reader of bytes.
 data Spot : Type 0 where
   between : Spot
   whole : PlainTree → Spot
@@ -24,7 +24,7 @@ data Spot : Type 0 where
   in_text : List ℕ → Spot
   in_escape : List ℕ → Spot
 
--- the bytes complete the document of t
+-- The bytes complete the document of `t`.
 abbrev Now : List PlainTrees → Spot → List ℕ → PlainTree → Type 0
 Now gs between bytes t = Between gs bytes t
 Now gs (whole u) bytes t = (skip bytes ≡ []) × (t ≡ u)
@@ -32,7 +32,7 @@ Now gs (in_atom a) bytes t = InsideAtom gs a bytes t
 Now gs (in_text x) bytes t = InsideText gs x bytes t
 Now gs (in_escape x) bytes t = InsideText gs x (92 ∷ bytes) t
 
--- what was read nests at most 64 deep
+-- The trees that were read nest at most 64 deep.
 abbrev Low : List PlainTrees → Spot → Type 0
 Low gs between = AreShallow gs
 Low gs (whole u) = nesting u ≤ 64
@@ -40,7 +40,7 @@ Low gs (in_atom a) = AreShallow gs
 Low gs (in_text x) = AreShallow gs
 Low gs (in_escape x) = AreShallow gs
 
--- a document goes on from each spot
+-- A document can be completed from each spot.
 ends : (gs : List PlainTrees) (spot : Spot) → Low gs spot → Ends (Now gs spot)
 ends gs between h = open_can_end gs h
 ends gs (whole u) h = ([], u, (refl, refl), h)
@@ -48,18 +48,18 @@ ends gs (in_atom a) h = atom_can_end gs a h
 ends gs (in_text x) h = text_can_end gs x h
 ends gs (in_escape x) h = escape_can_end gs x h
 
--- the byte leads to another spot
+-- The byte leads to another spot.
 record Moved (gs : List PlainTrees) (spot : Spot) (b : ℕ) : Type 0 where
   lists : List PlainTrees
   next : Spot
   same : (rest : List ℕ) (t : PlainTree) → Now gs spot (b ∷ rest) t ↔ Now lists next rest t
   low : Low lists next
 
--- no document goes on with the byte
+-- No document continues with the byte.
 abbrev Stuck : List PlainTrees → Spot → ℕ → Type 0
 Stuck gs spot b = (rest : List ℕ) (t : PlainTree) → ¬ (Now gs spot (b ∷ rest) t)
 
--- the byte opens a list inside 64 lists
+-- The byte opens a list inside 64 lists.
 record Deepened (gs : List PlainTrees) (spot : Spot) (b : ℕ) : Type 0 where
   opening : b ≡ 40
   some : (rest : List ℕ) × (t : PlainTree) × Now gs spot (b ∷ rest) t
@@ -68,7 +68,7 @@ record Deepened (gs : List PlainTrees) (spot : Spot) (b : ℕ) : Type 0 where
 abbrev Step : List PlainTrees → Spot → ℕ → Type 0
 Step gs spot b = Moved gs spot b ⊎ (Stuck gs spot b ⊎ Deepened gs spot b)
 
--- a step from a spot that takes the same bytes
+-- A step from another spot from which the same bytes complete the same documents.
 carried : (gs hs : List PlainTrees) (spot other : Spot) (b : ℕ)
     → ((rest : List ℕ) (t : PlainTree) → Now gs spot (b ∷ rest) t ↔ Now hs other (b ∷ rest) t) → Step hs other b → Step gs spot b
 carried gs hs spot other b same (inl m) =
@@ -78,7 +78,7 @@ carried gs hs spot other b same (inr (inr d)) =
     let (rest, t, h) = d.some in
     inr (inr (record { opening = d.opening; some = (rest, t, (same rest t).1 h); deeper = λ r u k. d.deeper r u ((same r u).0 k) }))
 
--- where a tree that ended leaves a reader
+-- The state of a reader after a tree ends.
 record Settled (gs : List PlainTrees) (u : PlainTree) : Type 0 where
   lists : List PlainTrees
   complete : Bool
@@ -95,7 +95,7 @@ same_or_other m n = elim (cases_lt m n) [
   | inr high ↦ elim (cases_lt n m) [ inl low ↦ inr (λ e. omega arith) | inr least ↦ inl (omega arith) ]
 ]
 
--- outside of atoms and texts
+-- A step outside of atoms and texts.
 closing : (gs : List PlainTrees) → AreShallow gs → Step gs between 41
 closing [] h = inr (inl (λ rest t k. between_no_end rest t k))
 closing (g ∷ gs) (m, h) =
@@ -161,7 +161,7 @@ outside_step : (gs : List PlainTrees) (complete : Bool) (u : PlainTree) (b : ℕ
 outside_step gs true u b h = whole_step_by gs u b (is_white b) refl h
 outside_step gs false u b h = open_step_by gs b (is_white b) refl h
 
--- in an atom
+-- A step in an atom.
 atom_step_by : (gs : List PlainTrees) (a : List ℕ) (b : ℕ) (w : Bool) → is_atom_byte b ≡ w → AreShallow gs → Step gs (in_atom a) b
 atom_step_by gs a b true w h = inl (record { lists = gs; next = in_atom (a ++ b ∷ []); same = λ rest t. atom_more gs a b rest t w; low = h })
 atom_step_by gs a b false w h =
@@ -171,7 +171,7 @@ atom_step_by gs a b false w h =
     (λ rest t. chain (atom_end gs a (b ∷ rest) t w) (s.same (b ∷ rest) t))
     (outside_step s.lists s.complete (atom a) b s.low)
 
--- in a text
+-- A step in a text.
 text_ends : (gs : List PlainTrees) (x : List ℕ) → AreShallow gs → Step gs (in_text x) 34
 text_ends gs x h =
     let n = shallow_few gs h in
@@ -203,7 +203,8 @@ step gs (in_atom a) b h = atom_step_by gs a b (is_atom_byte b) refl h
 step gs (in_text x) b h = text_step_at gs x b h
 step gs (in_escape x) b h = escape_step_by gs x b (escape_meaning b) refl h
 
--- where the bytes end
+-- At the end of the bytes, they complete the document of a tree that nests at most 64 deep, or no
+-- document.
 abbrev Ended : List PlainTrees → Spot → Type 0
 Ended gs spot = ((t : PlainTree) × Now gs spot [] t × (nesting t ≤ 64)) ⊎ ((t : PlainTree) → ¬ (Now gs spot [] t))
 
@@ -215,7 +216,7 @@ ended (g ∷ gs) (in_atom a) h = inr (λ t k. atom_unfinished (g ∷ gs) a t (λ
 ended gs (in_text x) h = inr (λ t k. text_unfinished gs x t k)
 ended gs (in_escape x) h = inr (λ t k. escape_unfinished gs x t k)
 
--- the reader has read the bytes `front`
+-- The reader has read the bytes `front`.
 abbrev Reads : List PlainTrees → Spot → List ℕ → Type 0
 Reads gs spot front = (rest : List ℕ) (t : PlainTree) → Now gs spot rest t ↔ Spells (front ++ rest) t
 

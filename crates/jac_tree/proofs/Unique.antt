@@ -93,7 +93,7 @@ mutual
 pub spells_one : (bytes : List ℕ) (t u : PlainTree) → Spells bytes t → Spells bytes u → t ≡ u
 spells_one bytes t u (to, h, e) (rest, k, f) = (tree_unique t u (skip bytes) to rest h k).0
 
--- how much a text takes
+-- How many bytes each part of the grammar takes.
 skip_shorter : (bs : List ℕ) → length (skip bs) ≤ length bs
 skip_shorter [] = omega arith
 skip_shorter (b ∷ bs) = let n = skipped (is_white b) b bs refl (skip_shorter bs) in omega arith

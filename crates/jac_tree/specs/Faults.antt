@@ -6,11 +6,11 @@ use Rattle.jac_tree.specs.declared.fault.TreeFault.{TreeFault}
 use Rattle.jac_tree.specs.declared.fault.TreeFault.TheVariants as faults
 use Rattle.jac_tree.specs.Grammar.{IsStrayAt, IsDeepAt, IsUnclosedAt}
 
--- the bytes are few enough, and UTF-8
+-- At most 1,048,576 bytes, which are UTF-8.
 abbrev pub IsShortText : List ℕ → Type 0
 IsShortText bytes = (length bytes ≤ 1048576) × IsUtf8 bytes
 
--- the fault that the bytes have; want of memory is none of theirs
+-- The fault is one of the bytes. Out of memory is not.
 abbrev pub IsFaultOf : List ℕ → TreeFault → Type 0
 IsFaultOf bytes faults.Long = 1048576 < length bytes
 IsFaultOf bytes (faults.NotUtf8 at) = (length bytes ≤ 1048576) × IsValidUpTo bytes at

@@ -4,11 +4,11 @@ use Rattle.std.specs.List.{list_all}
 use Rattle.jac_value.specs.Names.{is_atom_byte}
 use Rattle.jac_tree.specs.Plain.{PlainTree, PlainTrees, nesting}
 
--- space, tab, line feed or carriage return
+-- Whitespace: space, tab, line feed or carriage return.
 abbrev pub is_white : ℕ → Bool
 is_white b = b == 32 || b == 9 || b == 10 || b == 13
 
--- the bytes without the white at their front
+-- The bytes without the whitespace at their front.
 abbrev pub skip : List ℕ → List ℕ
 skip [] = []
 skip (b ∷ bs) = if is_white b then skip bs else b ∷ bs
@@ -20,11 +20,12 @@ abbrev pub begins_with_atom_byte : List ℕ → Bool
 begins_with_atom_byte [] = false
 begins_with_atom_byte (b ∷ bs) = is_atom_byte b
 
--- any byte that is neither a quote nor a backslash
+-- Any byte that is neither a quote nor a backslash.
 abbrev pub is_plain_byte : ℕ → Bool
 is_plain_byte b = not (b == 34 || b == 92)
 
--- what the byte after a backslash stands for: n, r, t, backslash and quote
+-- The byte that an escape means, by the byte after the backslash: `n`, `r`, `t`, a backslash or a
+-- quote.
 abbrev pub escape_meaning : ℕ → Option ℕ
 escape_meaning e =
     if e == 110 then Some 10
@@ -34,19 +35,18 @@ escape_meaning e =
     else if e == 34 then Some 34
     else None
 
--- a piece that stands for x is at the front of `from`, and `to` follows it
+-- `from` begins with a piece that means the byte `x`, and `to` follows it.
 abbrev pub PieceAt : ℕ → List ℕ → List ℕ → Type 0
 PieceAt x from to =
     ((is_plain_byte x ≡ true) × (from ≡ x ∷ to))
     ⊎ ((e : ℕ) × (escape_meaning e ≡ Some x) × (from ≡ 92 ∷ e ∷ to))
 
--- pieces that stand for the text, and then a quote, are at the front of `from`, and `to` follows
--- them
+-- `from` begins with pieces that mean the text and then a quote, and `to` follows them.
 abbrev pub PiecesAt : List ℕ → List ℕ → List ℕ → Type 0
 PiecesAt [] from to = from ≡ 34 ∷ to
 PiecesAt (x ∷ xs) from to = (rest : List ℕ) × PieceAt x from rest × PiecesAt xs rest to
 
--- the tree is at the front of `from`, and `to` follows it; an atom is a longest run
+-- `from` begins with the tree, and `to` follows it. An atom is as long as possible.
 abbrev mutual
   pub TreeAt : PlainTree → List ℕ → List ℕ → Type 0
   TreeAt (PlainTree.atom a) from to =
@@ -56,17 +56,17 @@ abbrev mutual
   TreeAt (PlainTree.list ts) from to = (inside : List ℕ) × (from ≡ 40 ∷ inside)
       × TreesAt ts inside to
 
-  -- the trees, white around them, and then the closing bracket
+  -- The trees, with whitespace around them, and then the closing bracket.
   pub TreesAt : PlainTrees → List ℕ → List ℕ → Type 0
   TreesAt PlainTrees.none from to = skip from ≡ 41 ∷ to
   TreesAt (PlainTrees.more t ts) from to = (rest : List ℕ) × TreeAt t (skip from) rest
       × TreesAt ts rest to
 
--- the bytes are a document: white, the tree, white
+-- The bytes are a document: whitespace, the tree, whitespace.
 abbrev pub Spells : List ℕ → PlainTree → Type 0
 Spells bytes t = (to : List ℕ) × TreeAt t (skip bytes) to × (skip to ≡ [])
 
--- some document begins with the bytes, and one whose tree nests at most n deep does
+-- Some document begins with the bytes. Below: some document whose tree nests at most `n` deep.
 abbrev pub IsBegunDocument : List ℕ → Type 0
 IsBegunDocument front = (rest : List ℕ) × (t : PlainTree) × Spells (front ++ rest) t
 
@@ -74,14 +74,14 @@ abbrev pub IsBegunWithin : ℕ → List ℕ → Type 0
 IsBegunWithin n front = (rest : List ℕ) × (t : PlainTree) × Spells (front ++ rest) t
     × (nesting t ≤ n)
 
--- the byte at this place is the first with which no document goes on
+-- The byte at this place is the first with which no document continues.
 pub record IsStrayAt (bytes : List ℕ) (at : ℕ) : Type 0 where
   pub within : at < length bytes
   pub before : IsBegunWithin 64 (take at bytes)
   pub after : ¬ (IsBegunDocument (take (at + 1) bytes))
 
--- the byte at this place opens a list inside 64 lists: it is the first with which only documents of
--- trees that nest deeper than 64 go on
+-- The byte at this place opens a list inside 64 lists. It is the first with which only documents of
+-- trees deeper than 64 continue.
 pub record IsDeepAt (bytes : List ℕ) (at : ℕ) : Type 0 where
   pub within : at < length bytes
   pub opens : slice_index bytes at ≡ 40
@@ -89,13 +89,13 @@ pub record IsDeepAt (bytes : List ℕ) (at : ℕ) : Type 0 where
   pub after : IsBegunDocument (take (at + 1) bytes)
   pub deeper : ¬ (IsBegunWithin 64 (take (at + 1) bytes))
 
--- the bytes, which end at this place, begin a document and are none
+-- The bytes end at this place. They begin a document, but aren't one.
 pub record IsUnclosedAt (bytes : List ℕ) (at : ℕ) : Type 0 where
   pub at_end : at ≡ length bytes
   pub begun : IsBegunWithin 64 bytes
   pub none : (t : PlainTree) → ¬ (Spells bytes t)
 
--- the tree that the bytes are read as
+-- The tree that the bytes are read as.
 pub record Accepted (bytes : List ℕ) (t : PlainTree) : Type 0 where
   pub short : length bytes ≤ 1048576
   pub utf8 : IsUtf8 bytes

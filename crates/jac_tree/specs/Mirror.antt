@@ -1,4 +1,4 @@
--- The plain tree that a tree of the code is.
+-- From a tree of the program to a plain tree.
 use Rattle.jac_tree.specs.declared.tree.Tree.{Tree}
 use Rattle.jac_tree.specs.declared.tree.Tree.TheVariants as trees
 use Rattle.jac_tree.specs.declared.tree.Trees.{Trees, End, More'}

@@ -12,17 +12,18 @@ mutual
     none : PlainTrees
     more : PlainTree → PlainTrees → PlainTrees
 
--- the trees of a list, as a list
+-- The trees of a list, as a list.
 abbrev pub tree_list : PlainTrees → List PlainTree
 tree_list none = []
 tree_list (more t ts) = t ∷ tree_list ts
 
--- the first trees turned round, and then the second
+-- The first trees in reverse order, and then the second.
 abbrev pub onto : PlainTrees → PlainTrees → PlainTrees
 onto none over = over
 onto (more t ts) over = onto ts (more t over)
 
--- how many lists stand round the deepest place of a tree, and the most of those of its trees
+-- The number of lists around the deepest place of a tree, and the largest such number of several
+-- trees.
 abbrev mutual
   pub nesting : PlainTree → ℕ
   nesting (atom a) = 0
@@ -33,7 +34,7 @@ abbrev mutual
   nesting_all none = 0
   nesting_all (more t ts) = max (nesting t) (nesting_all ts)
 
--- how many trees the longest list of a tree has
+-- The number of trees in the longest list of a tree.
 abbrev mutual
   pub widest : PlainTree → ℕ
   widest (atom a) = 0
@@ -44,18 +45,18 @@ abbrev mutual
   widest_all none = 0
   widest_all (more t ts) = max (widest t) (widest_all ts)
 
--- how many trees stand in a list
+-- The number of trees in a list.
 abbrev pub count : PlainTrees → ℕ
 count none = 0
 count (more t ts) = count ts + 1
 
--- the tree is this word, as an atom
+-- The tree is this word as an atom.
 abbrev pub is_word : List ℕ → PlainTree → Bool
 is_word word (atom a) = bytes_eq a word
 is_word word (text x) = false
 is_word word (list ts) = false
 
--- the trees of a list after its head, where that is this word
+-- The trees of a list after its head, if the head is this word.
 abbrev pub tail_of : List ℕ → PlainTree → Option PlainTrees
 tail_of word (atom a) = None
 tail_of word (text x) = None

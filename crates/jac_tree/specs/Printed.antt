@@ -3,7 +3,8 @@ use Rattle.std.specs.Prelude.{◌≡◌, ◌≢◌, ℕ, ◌==◌, true, List, [
 use Rattle.jac_tree.specs.Grammar.{are_atom_bytes}
 use Rattle.jac_tree.specs.Plain.{PlainTree, PlainTrees}
 
--- a byte of a text as it stands between quotes: \n \r \t \\ \" or the byte itself
+-- A byte of a text as it is printed between quotes: `\n`, `\r`, `\t`, `\\`, `\"` or the byte
+-- itself.
 abbrev pub text_piece : ℕ → List ℕ
 text_piece b =
     if b == 10 then 92 ∷ 110 ∷ []
@@ -17,7 +18,8 @@ abbrev pub text_pieces : List ℕ → List ℕ
 text_pieces [] = []
 text_pieces (b ∷ bs) = text_piece b ++ text_pieces bs
 
--- an atom raw, a text in quotes, a list in brackets with one space between neighbours
+-- An atom is printed as it is, a text in quotes, a list in brackets with one space between
+-- neighbours.
 abbrev mutual
   pub printed_tree : PlainTree → List ℕ
   printed_tree (PlainTree.atom a) = a
@@ -28,12 +30,12 @@ abbrev mutual
   printed_all PlainTrees.none = []
   printed_all (PlainTrees.more t ts) = printed_tree t ++ printed_after ts
 
-  -- the trees that stand after another one
+  -- The trees that follow another one.
   pub printed_after : PlainTrees → List ℕ
   printed_after PlainTrees.none = []
   printed_after (PlainTrees.more t ts) = 32 ∷ (printed_tree t ++ printed_after ts)
 
--- each atom of the tree is one: a byte or more, all of them atom bytes
+-- Each atom of the tree has one or more bytes, all of them bytes of atoms.
 abbrev mutual
   pub HasAtoms : PlainTree → Type 0
   HasAtoms (PlainTree.atom a) = (a ≢ []) × (are_atom_bytes a ≡ true)

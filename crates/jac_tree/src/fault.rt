@@ -4,16 +4,16 @@ ghost use Rattle.jac_tree.specs.declared.fault.TreeFault.TheVariants as faults;
 use jac_value::Memory;
 use thiserror::Error;
 
-/// Why bytes gave no tree. Places count bytes from 0.
+/// Why bytes weren't read as a tree. Places count bytes from 0.
 #[derive(Clone, Copy, Debug, PartialEq, Eq, Error)]
 pub enum TreeFault {
     /// More than 1,048,576 bytes.
     #[error("too long")]
     Long,
-    /// The bytes aren't UTF-8; their longest prefix that is UTF-8 has this length.
+    /// The bytes aren't UTF-8. Their longest prefix that is UTF-8 has this length.
     #[error("not UTF-8 at {0}")]
     NotUtf8(u64),
-    /// No text of a tree goes on with this byte.
+    /// No text of a tree continues with this byte.
     #[error("stray at {0}")]
     Stray(u64),
     /// This byte opens a list inside 64 lists.

@@ -5,7 +5,7 @@ ghost use Rattle.jac_tree.specs.Plain.{count, is_word, nesting, nesting_all, tai
 
 use crate::{Tree, Trees};
 
-/// Whether the tree is this word, as an atom.
+/// Whether the tree is this word as an atom.
 pub fn is_word(tree: &Tree, word: &[u8]) -> bool
     ensures { result ≡ is_word word.now (plain tree.now) }
 {
@@ -16,7 +16,7 @@ pub fn is_word(tree: &Tree, word: &[u8]) -> bool
     }
 }
 
-/// What stands after the head of a list, where that is this word.
+/// The trees after the head of a list, if the head is this word.
 pub fn tail_of<'t>(tree: &'t Tree, word: &[u8]) -> Option<&'t Trees>
     ensures { option_map (λ ts. plain_all ts.now) result ≡ tail_of word.now (plain tree.now) }
 {
@@ -30,7 +30,7 @@ pub fn tail_of<'t>(tree: &'t Tree, word: &[u8]) -> Option<&'t Trees>
     }
 }
 
-/// Whether there are at most so many trees.
+/// Whether there are at most `most` trees.
 pub fn is_up_to(trees: &Trees, most: u64) -> bool
     ensures { result ≡ nat_le (count (plain_all trees.now)) most }
 {
@@ -46,7 +46,8 @@ pub fn is_up_to(trees: &Trees, most: u64) -> bool
     true
 }
 
-/// Whether at most so many lists stand round each place of the tree. It looks no deeper.
+/// Whether each place of the tree is inside at most `levels` lists. It recurses no deeper than
+/// that.
 #[cycle(depth)]
 pub fn nests_within(tree: &Tree, levels: u64) -> bool
     ensures { result ≡ nat_le (nesting (plain tree.now)) levels }

@@ -1,4 +1,4 @@
-//! Texts of trees: atoms, quoted texts and lists in brackets, read exactly, and printed.
+//! Parses and prints trees. It accepts exactly the grammar, and gives the place of each fault.
 #![tactic(auto)]
 
 mod fault;

@@ -9,14 +9,14 @@ use crate::{Tree, Trees};
 use jac_value::{Bytes, Memory};
 use std::alloc::Global;
 
-/// The tree as `(a "b" (c) ())`, with no white but one space between neighbours. In texts LF, CR,
-/// tab, backslash and quote are `\n`, `\r`, `\t`, `\\` and `\"`, and every other byte stands for
-/// itself.
+/// The tree as `(a "b" (c) ())`, with one space between neighbours and no other whitespace. In
+/// texts LF, CR, tab, backslash and quote are `\n`, `\r`, `\t`, `\\` and `\"`, and every other byte
+/// is printed as it is.
 pub fn print_tree(alloc: Global, tree: &Tree) -> Result<Bytes, Memory>
     requires shallow { nesting (plain tree.now) ≤ 64 }
     ensures printed { IfOk result (λ bytes. bytes ≡ printed_tree (plain tree.now)) }
 
-    // What was printed is read back as the tree, where it is within the limits of `read_tree`.
+    // `read_tree` reads the printed bytes as the tree, if they are within its limits.
     ensures accepted { IfOk result (λ bytes. HasAtoms (plain tree.now)
         → length bytes ≤ 1048576 → Accepted bytes (plain tree.now)) }
 {
@@ -25,12 +25,14 @@ pub fn print_tree(alloc: Global, tree: &Tree) -> Result<Bytes, Memory>
     Ok(Bytes::from_vec(text.into_bytes()))
 }
 
-/// A law, with nothing to run: what a tree is printed as spells it.
+/// A law: if each atom of a tree has one or more bytes, all of them bytes of atoms, its printed
+/// text spells it.
 pub fn printed_spells_its_tree()
     ensures { (t : PlainTree) → HasAtoms t → Spells (printed_tree t) t }
 {}
 
-/// A law, with nothing to run: a tree that was read can be printed and read again.
+/// A law: in a tree that bytes spell, each atom has one or more bytes, all of them bytes of atoms.
+/// So its printed text spells it.
 pub fn spelled_has_atoms()
     ensures { (bytes : List ℕ) (t : PlainTree) → Spells bytes t → HasAtoms t }
 {}
@@ -62,7 +64,7 @@ fn put_list(trees: &Trees, to: &mut String) -> Result<(), Memory>
     Ok(())
 }
 
-// The trees that stand after another one.
+// The trees that follow another one.
 #[cycle(print)]
 fn put_after(trees: &Trees, to: &mut String) -> Result<(), Memory>
     ensures { OnOk result (string_bytes to.new ≡ string_bytes to.old ++ printed_after

@@ -12,22 +12,22 @@ use crate::{Tree, TreeFault, Trees};
 use jac_value::{Memory, Txt};
 use std::alloc::Global;
 
-// The most bytes that are read.
+// The largest number of bytes that are read.
 const LENGTH_LIMIT: usize = 1_048_576;
 
-// The most lists that are open at once.
+// The largest number of lists that are open at once.
 const NESTING_LIMIT: usize = 64;
 
-// Where a reader stands outside of atoms and texts.
+// The state of a reader outside of atoms and texts.
 #[derive(Drop)]
 enum Place {
-    // A tree may begin here, or the innermost open list end.
+    // A tree may begin here, or the innermost open list may end.
     Open,
     // The document's tree was read.
     Complete(Tree),
 }
 
-// Where a reader stands between two characters.
+// The state of a reader between two characters.
 #[derive(Drop)]
 enum Mode {
     Outside(Place),
@@ -54,14 +54,14 @@ pub fn read_tree(alloc: Global, bytes: &[u8]) -> Result<Tree, TreeFault>
     ensures no_text { length bytes.now ≤ 1048576 → ¬ (IsUtf8 bytes.now) → (at : ℕ)
         × IsErrOf result (TreeFault.NotUtf8 at) }
 
-    // Stray and Deep come at the first byte with which no document, or no document of at most 64
-    // levels, goes on.
+    // `Stray` has the place of the first byte with which no document continues, and `Deep` that of
+    // the first byte with which no document of at most 64 levels continues.
     ensures stray { (at : ℕ) → IsErrOf result (TreeFault.Stray at) → IsStrayAt bytes.now at }
     ensures deep { (at : ℕ) → IsErrOf result (TreeFault.Deep at) → IsDeepAt bytes.now at }
     ensures unclosed { (at : ℕ) → IsErrOf result (TreeFault.Unclosed at)
         → IsUnclosedAt bytes.now at }
 
-    // Where the bytes have a fault it is answered, unless memory runs out.
+    // If the bytes have a fault, it is returned, unless memory runs out.
     ensures faults { (fault : AnyFault) → IsFaultOf bytes.now fault
         → MatchResult result (λ _. ⊥) (λ e. (e ≡ fault) ⊎ (e ≡ TreeFault.Memory)) }
 {
@@ -76,20 +76,20 @@ pub fn read_tree(alloc: Global, bytes: &[u8]) -> Result<Tree, TreeFault>
     Ok(tree)
 }
 
-/// A law, with nothing to run: bytes spell at most one tree.
+/// A law: bytes spell at most one tree.
 pub fn spells_one_tree()
     ensures { (bytes : List ℕ) (t : PlainTree) (u : PlainTree) → Spells bytes t → Spells bytes u
         → t ≡ u }
 {}
 
-/// A law, with nothing to run: bytes that are a text of at most 1,048,576 bytes are accepted as a
-/// tree, or have a fault. So what `read_tree` answers is determined but for want of memory.
+/// A law: at most 1,048,576 bytes that are UTF-8 are accepted as a tree, or have a fault. So the
+/// result of `read_tree` is determined, unless memory runs out.
 pub fn each_text_is_read()
     ensures { (bytes : List ℕ) → IsShortText bytes → ((t : PlainTree) × Accepted bytes t)
         ⊎ ((fault : AnyFault) × IsFaultOf bytes fault) }
 {}
 
-/// The tree that the text spells, however long it is.
+/// The tree that the text spells. The text may have any length.
 pub fn read_text(alloc: Global, text: &Txt) -> Result<Tree, TreeFault>
     ensures reads { ReadsTree text.now result }
     ensures wide { IfOk result (λ t. widest (plain t) ≤ length text.now) }
@@ -112,7 +112,8 @@ fn read_str(alloc: Global, text: &str) -> Result<Tree, TreeFault>
     Ok(tree)
 }
 
-// The character c stands at the byte `at`. After a fault the reader is done with.
+// Reads the character `c`, which begins at the byte `at`. After a fault, the reader isn't used
+// again.
 fn step(
     alloc: Global,
     stack: &mut Vec<Trees>,
@@ -172,7 +173,7 @@ fn outside(
     }
 }
 
-// A tree may begin with the character, or the innermost list end.
+// Reads a character with which a tree may begin, or the innermost list may end.
 fn between(alloc: Global, stack: &mut Vec<Trees>, c: char, at: u64) -> Result<Mode, TreeFault>
     ensures steps { Goes (open_lists stack.old.items) (Mode.Outside Place.Open) (encode_utf8 c) at
         (open_lists stack.new.items) result }
@@ -199,7 +200,7 @@ fn between(alloc: Global, stack: &mut Vec<Trees>, c: char, at: u64) -> Result<Mo
     }
 }
 
-// No tree but an atom begins with the character.
+// Reads a character with which only an atom may begin.
 fn begin_atom(alloc: Global, c: char, at: u64) -> Result<Mode, TreeFault>
     requires no_white { is_white c ≡ false }
     requires no_quote { c ≢ 34 }
@@ -254,7 +255,7 @@ fn close_list(alloc: Global, stack: &mut Vec<Trees>, at: u64) -> Result<Mode, Tr
     }
 }
 
-// Puts a tree that was read into the innermost open list.
+// Appends a tree that was read to the innermost open list.
 fn settle(alloc: Global, stack: &mut Vec<Trees>, tree: Tree) -> Result<Place, Memory>
     ensures settles { IfOk result (λ place. Settles (open_lists stack.old.items) (plain tree)
         (open_lists stack.new.items) place) }
@@ -365,7 +366,7 @@ fn pushed(text: String, c: char) -> Result<String, Memory>
     Ok(longer)
 }
 
-// What the character after a backslash stands for.
+// The character that an escape means, by the character after the backslash.
 fn unescaped(c: char) -> Option<char>
     ensures { result ≡ escape_meaning c }
 {

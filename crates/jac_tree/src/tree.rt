@@ -5,7 +5,7 @@ ghost use Rattle.jac_tree.specs.Plain.{onto};
 use jac_value::Txt;
 use std::mem;
 
-/// A tree as its text spells it.
+/// The tree that a text spells.
 #[cycle(tree)]
 #[derive(Drop)]
 pub enum Tree {
@@ -16,7 +16,7 @@ pub enum Tree {
     List(Trees),
 }
 
-/// The trees of a list, in order. Walk it by a loop over references.
+/// The trees of a list, in order. Walk them by a loop over references.
 #[cycle(tree)]
 pub enum Trees {
     End,
@@ -39,7 +39,7 @@ impl Drop for Trees {
 }
 
 impl Trees {
-    /// These trees turned round, and then those of `over`; no memory is taken.
+    /// These trees in reverse order, and then those of `over`. It takes no memory.
     pub fn before(self, over: Trees) -> Trees
         ensures { plain_all result ≡ onto (plain_all self) (plain_all over) }
     {

@@ -4,7 +4,7 @@ use Rattle.jac_tree.specs.Plain.{nesting_all}
 use Rattle.jac_tree.specs.declared.tree.Trees.{size-Trees}
 use Rattle.jac_tree.proofs.heads.+depth.Given as goal
 
--- the trees that are left are within the levels where all are
+-- The trees that are left are within the levels exactly if all trees are.
 abbrev pub invariant-nest_within-trees : goal.invariant-nest_within-trees
 invariant-nest_within-trees l = record {
   no_deeper : size-Trees l.left ≤ size-Trees l.trees;

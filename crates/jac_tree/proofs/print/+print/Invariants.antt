@@ -4,7 +4,7 @@ use Rattle.jac_tree.specs.Printed.{printed_after}
 use Rattle.jac_tree.specs.declared.tree.Trees.{size-Trees}
 use Rattle.jac_tree.proofs.print.+print.Given as goal
 
--- what was put, before the trees that are left, is all of them
+-- The text so far, followed by the trees that are left, is the text of all trees.
 abbrev pub invariant-put_after-trees : goal.invariant-put_after-trees
 invariant-put_after-trees l = record {
   no_deeper : size-Trees l.left ≤ size-Trees l.trees;

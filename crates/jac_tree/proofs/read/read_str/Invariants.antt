@@ -5,7 +5,8 @@ use Rattle.jac_tree.specs.Plain.{PlainTree}
 use Rattle.jac_tree.specs.Reading.{open_lists, Completes, IsShallow}
 use Rattle.jac_tree.proofs.read.read_str.Given as goal
 
--- what completes a document after the bytes so far is what the reader takes
+-- The bytes that complete a document after those read so far are the bytes that the reader's state
+-- accepts.
 abbrev pub invariant-characters : goal.invariant-characters
 invariant-characters l = record {
   within : l.at ≤ length l.text;
