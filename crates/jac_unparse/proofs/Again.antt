@@ -1,4 +1,4 @@
--- What is read is read again from the tree that it is written as: expressions and queries.
+-- The tree of an expression or a query that was read is read as the same.
 use Rattle.std.proofs.Common.{◌≡◌, inl, inr, ℕ, ◌+◌, ◌≤◌, ℤ, pos, neg_ℤ, Bool, true, false, ◌&&◌, ◌==◌, nat_le, refl, sym, ◌∙◌, ap, subst, arith, Option, Some, None, List, [], ◌∷◌, drop}
 use Rattle.std.specs.Prelude.{codes, if◌then◌else◌, slice_index, zero, suc}
 use Rattle.std.specs.Fmt.{decimal, signed_decimal}
@@ -34,14 +34,14 @@ use Rattle.jac_forms.specs.declared.words.Form.TheVariants as forms
 use Rattle.jac_forms.proofs.Chains.{IfGot, chained, mapped, weaker, where_true, where_false, either, within}
 use Rattle.jac_forms.proofs.WrittenExpressions.{name-written}
 
--- a step of a chain of readings whose value is known
+-- A step of a chain of reads, if its value is known.
 pub step : {A B : Type 0} (f : A → Read B) (o : Read A) (x : A) → o ≡ got x → read_and_then f o ≡ f x
 step f o x e = ap (read_and_then f) e
 
 pub mapping : {A B : Type 0} (f : A → B) (o : Read A) (x : A) → o ≡ got x → read_map f o ≡ got (f x)
 mapping f o x e = ap (read_map f) e
 
--- a test whose answer is known
+-- A test with a known result.
 pub passed : {A : Type 0} (b : Bool) (x y : Read A) → b ≡ true → (if b then x else y) ≡ x
 passed b x y e = ap (λ z. if z then x else y) e
 
@@ -61,7 +61,7 @@ named_again want at a h = passed (is_name a) (got a) (wrong want at) h
 pub name_again : (at : List ℕ) (a : List ℕ) → IsName a → name_in_tree at (PlainTree.atom a) ≡ got a
 name_again at a h = named_again wants.Name at a h
 
--- an integer is read from the number that it is printed as
+-- An integer is read back from its decimal digits.
 abbrev IsRespelled : ℤ → Type 0
 IsRespelled i = integer_of (signed_decimal i) ≡ Some i
 
@@ -104,14 +104,14 @@ respelled a i e =
     (bounded (is_numeral (drop 1 a)) (digits_value 10 (drop 1 a)) 0x8000_0000_0000_0000)
     (bounded (is_numeral a) (digits_value 10 a) 0x7FFF_FFFF_FFFF_FFFF) e
 
--- no integer is spelled as a word that is none
+-- A text that is an integer isn't equal to a word that is none.
 no_word : (a : List ℕ) (i : ℤ) (word : List ℕ) → integer_of a ≡ Some i → integer_of word ≡ None → bytes_eq a word ≡ false
 no_word a i word e n = elim (cases_Bool (bytes_eq a word)) [
   | inl same ↦ let bad : Some i ≡ None = sym e ∙ ap integer_of ((bytes_eq-Decides a word).0 same) ∙ n in cc
   | inr other ↦ other
 ]
 
--- an expression, the parts of a `cat` and a query are read from the tree that they are written as, at whatever place
+-- An expression is read back from its tree, at any place. Below: the parts of a `cat`, and a query.
 abbrev pub IsAgain : Expression → Type 0
 IsAgain e = (to : List ℕ) → expression_in_tree to (tree_of_expression e) ≡ got e
 
@@ -121,7 +121,7 @@ AreAgain es = (to : List ℕ) (k : ℕ) → expressions_in_trees to k (trees_of_
 abbrev pub IsAsked : ℕ → Question → Type 0
 IsAsked most q = (to : List ℕ) → question_in_tree most to (tree_of_question q) ≡ got q
 
--- an atom that is none of the reserved words
+-- An atom that is none of the reserved words.
 record IsFree (a : List ℕ) : Type 0 where
   no_true : bytes_eq a (codes "true") ≡ false
   no_false : bytes_eq a (codes "false") ≡ false
@@ -163,7 +163,7 @@ atom-again at a =
     decided IsAgain (bytes_eq a (codes "viewer")) (got Expression.viewer) _ (λ _ to. refl) (λ s.
     number_or_name-again at a (record { no_true = p; no_false = q; no_this = r; no_viewer = s }) (integer_of a) refl))))
 
--- a binder, and the order of a query, are read again from their trees
+-- A binder is read back from its tree. Below: the order of a query.
 abbrev IsBinder : Binder → Type 0
 IsBinder b = (to : List ℕ) → binder_in_tree to (pair b.name (PlainTree.atom b.model)) ≡ got b
 
@@ -181,7 +181,7 @@ binder-again at (PlainTree.list (PlainTrees.more x (PlainTrees.more m PlainTrees
     mapped IsName IsBinder (binder name) (name_in_tree (child at 1) m) (name-written (child at 1) m) (λ model k. binder_again name model h k))
 binder-again at t = tt
 
--- binders are read again from n trees
+-- The binders are read back from their trees, of which there are `n`.
 record AreBound (n : ℕ) (bs : List Binder) : Type 0 where
   same : (to : List ℕ) (k : ℕ) → binders_in_trees to k (trees_of_binders bs) ≡ got bs
   size : count (trees_of_binders bs) ≡ n
@@ -198,7 +198,7 @@ binders-again at k (PlainTrees.more t ts) =
       size = ap (λ n. n + 1) l.size;
     }))
 
--- the binders of a query that may have so many
+-- The binders of a query are read back, if it may have up to `most`.
 record AreFew (most : ℕ) (bs : List Binder) : Type 0 where
   same : (to : List ℕ) → binders_in_tree most to (PlainTree.list (trees_of_binders bs)) ≡ got bs
   few : has_few most (PlainTree.list (trees_of_binders bs)) ≡ true
@@ -296,7 +296,7 @@ none-again at (PlainTrees.more m PlainTrees.none) =
     mapping Expression.none_of (name_in_tree (child to 1) (PlainTree.atom x)) x (name_again (child to 1) x h))
 none-again at ts = tt
 
--- the operands of a form, in each way that some form takes them
+-- The operands of a form, read in each way in which some form takes them.
 record AreOperands (operands : Operands) : Type 0 where
   none_of : IfGot operands.none_of IsAgain
   one : IfGot operands.one IsAgain

@@ -1,4 +1,4 @@
--- What is read is read again from the tree that it is written as: models, views and applications.
+-- The tree of a model, a view or an application that was read is read as the same.
 use Rattle.std.proofs.Common.{◌≡◌, ℕ, ◌+◌, ◌≤◌, Bool, true, false, nat_le, refl, ◌∙◌, ap, subst, arith, Option, Some, None, List, [], ◌∷◌, length}
 use Rattle.std.specs.Prelude.{IfSome, codes, if◌then◌else◌}
 use Rattle.std.specs.Str.{bytes_eq}
@@ -27,7 +27,7 @@ use Rattle.jac_unparse.proofs.AgainStatements.{AreRead, each-again, all-assigned
 use Rattle.jac_forms.proofs.Chains.{IfGot, after, placed, freely, chained, mapped, weaker, where_true, where_false, either, within}
 use Rattle.jac_forms.proofs.WrittenExpressions.{name-written}
 
--- a kind, and a field of any form that has it, are read again from their trees
+-- A kind is read back from its tree. Below: a field of the kind.
 abbrev IsKind : KindName → Type 0
 IsKind kind = (to : List ℕ) → kind_in_tree to (tree_of_kind kind) ≡ got kind
 
@@ -113,7 +113,7 @@ policy-again at t =
     after IsPolicy wants.Policy at (one_in_trees wants.Policy at) (tail_of (codes "policy") t) (λ ts.
     weaker IsAgain IsPolicy (one_in_trees wants.Policy at ts) (one-again wants.Policy at ts) (λ e h to. h (child to 1)))
 
--- what a group guards is read again from its tree
+-- What a group guards is read back from its tree.
 abbrev IsGuarding : Guarding → Type 0
 IsGuarding g = (to : List ℕ) → guarding_in_tree to (tree_of_guarding g.hides g.guards) ≡ got g
 
@@ -144,7 +144,7 @@ group-again at t = after IsGroup wants.Group at (group_in_trees at) (tail_of (co
 groups-again : (at : List ℕ) (k : ℕ) (ts : PlainTrees) → IfGot (each_in_trees group_in_tree at k ts) (AreRead group_in_tree trees_of_groups (count ts))
 groups-again at k ts = each-again IsGroup group_in_tree group_in_tree tree_of_group trees_of_groups refl (λ x xs. refl) group-again (λ to g h. h to) at k ts
 
--- the parts of a model are read again after its name, from whatever child on
+-- The parts of a model after its name are read back, from any child number on.
 abbrev AreParts : Entity → Type 0
 AreParts m = (to : List ℕ) (k : ℕ) → entity_behind to m.nested k (PlainTree.atom m.name) (trees_of_parts m) ≡ got m
 
@@ -232,7 +232,7 @@ view-again at t = after IsPage wants.Item at (page_in_trees at) (tail_of (codes 
 views-again : (at : List ℕ) (k : ℕ) (ts : PlainTrees) → IfGot (each_in_trees page_in_tree at k ts) (AreRead page_in_tree trees_of_pages (count ts))
 views-again at k ts = each-again IsPage page_in_tree page_in_tree tree_of_page trees_of_pages refl (λ x xs. refl) view-again (λ to v h. h to) at k ts
 
--- the models are as many as the lists with their head, or fewer
+-- There are at most as many models as lists with the head `model`.
 record AreItems (most : ℕ) (is : Items) : Type 0 where
   few : length is.models ≤ most
   same : (to : List ℕ) (k : ℕ) → items_in_trees to k (models_before is.models (trees_of_pages is.views)) ≡ got is
@@ -268,7 +268,7 @@ headed_models : (ms : List Entity) (vs : List Page) → headed_count (codes "mod
 headed_models [] vs = headed_views vs
 headed_models (m ∷ ms) vs = omega (arith, headed_models ms vs)
 
--- an application of at most 64 models, whose viewer has a name
+-- The application is read back from its trees.
 abbrev IsApplication : Application → Type 0
 IsApplication a = (to : List ℕ) → application_in_trees to (viewer_before a.viewer (models_before a.models (trees_of_pages a.views))) ≡ got a
 

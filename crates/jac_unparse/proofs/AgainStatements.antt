@@ -1,4 +1,4 @@
--- What is read is read again from the tree that it is written as: lists of trees, and statements.
+-- The trees of a list of values, or of statements, that were read are read as the same.
 use Rattle.std.proofs.Common.{◌≡◌, ℕ, ◌+◌, refl, ◌∙◌, ap, Option, Some, None, List, [], ◌∷◌}
 use Rattle.std.specs.Prelude.{codes}
 use Rattle.jac_lang.specs.Syntax.{Expression, Assigned, Statement}
@@ -20,12 +20,12 @@ use Rattle.jac_unparse.proofs.Again.{step, mapping, name_again, IsAgain, IsAsked
 use Rattle.jac_forms.proofs.Chains.{IfGot, after, chained, mapped, weaker}
 use Rattle.jac_forms.proofs.WrittenExpressions.{name-written}
 
--- values are read again, each by `again`, from the n trees that they are written as
+-- The values are read back from their `n` trees, each by `again`.
 pub record AreRead {A : Type 0} (again : List ℕ → PlainTree → Read A) (writes : List A → PlainTrees) (n : ℕ) (xs : List A) : Type 0 where
   pub same : (to : List ℕ) (k : ℕ) → each_in_trees again to k (writes xs) ≡ got xs
   pub size : count (writes xs) ≡ n
 
--- P of each value that is read suffices for that
+-- It suffices that `P` holds for each value that is read.
 pub each-again : {A : Type 0} (P : A → Type 0) (read again : List ℕ → PlainTree → Read A) (write : A → PlainTree) (writes : List A → PlainTrees)
     → writes [] ≡ PlainTrees.none → ((x : A) (xs : List A) → writes (x ∷ xs) ≡ PlainTrees.more (write x) (writes xs))
     → ((at : List ℕ) (t : PlainTree) → IfGot (read at t) P) → ((to : List ℕ) (x : A) → P x → again to (write x) ≡ got x)
@@ -43,7 +43,7 @@ each-again {A} P read again write writes nil cons one keeps at k (PlainTrees.mor
       size = ap count (cons x xs) ∙ ap (λ n. n + 1) l.size;
     }))
 
--- a name and its expression
+-- The field is a name, and its expression is read back.
 abbrev IsSet : Assigned → Type 0
 IsSet a = IsName a.field × IsAgain a.value
 
@@ -71,7 +71,7 @@ set-again at t =
     after AreSet wants.Set at (each_in_trees (assigned_in_tree wants.Cell) at 1) (tail_of (codes "set") t) (λ ts.
     weaker (AreRead (assigned_in_tree wants.Cell) trees_of_assigned (count ts)) AreSet (each_in_trees (assigned_in_tree wants.Cell) at 1 ts) (all-assigned-again wants.Cell at ts) (λ cells h to. h.same to 1))
 
--- a statement without sites is read again, wherever its sites would begin
+-- A statement without sites is read back, with any number for its first site.
 abbrev IsSingle : Statement → Type 0
 IsSingle s = (to : List ℕ) (n : ℕ) → statement_in_tree to (tree_of_statement s) n ≡ got (numbered_statement n s)
 
@@ -112,7 +112,7 @@ template-again : (at : List ℕ) (ts : PlainTrees) → IfGot (template_in_trees 
 template-again at (PlainTrees.more (PlainTree.text x) PlainTrees.none) = λ to n. refl
 template-again at ts = tt
 
--- a statement of one expression
+-- A statement with one expression is read back.
 with_one-again : (make : Expression → Statement) (at : List ℕ) (ts : PlainTrees)
     → ((e : Expression) (to : List ℕ) (n : ℕ) → statement_in_tree to (tree_of_statement (make e)) n ≡ read_map (numbered_statement n) (read_map make (expression_in_tree (child to 1) (tree_of_expression e))))
     → IfGot (read_map make (one_in_trees wants.Statement at ts)) IsSingle
@@ -130,7 +130,7 @@ single-again at ts singles.Missing = missing-again at ts
 single-again at ts singles.Redirect = with_one-again Statement.redirect at ts (λ e to n. refl)
 single-again at ts singles.Template = template-again at ts
 
--- a statement, and statements, are read again where their sites begin at the same number
+-- A statement is read back if its sites begin at the same number. Below: statements.
 abbrev pub IsCounted : ℕ → Numbered → Type 0
 IsCounted n s = (to : List ℕ) → statement_in_tree to (tree_of_statement s.statement) n ≡ got s
 
@@ -161,7 +161,7 @@ create_again n name model cells b h k i l to =
     ∙ step (λ w. read_map (create name model n w) (statements_in_trees to 4 ss (next_site n))) set cells (i (child to 3))
     ∙ mapping (create name model n cells) (statements_in_trees to 4 ss (next_site n)) b (l to 4)
 
--- what stands after the head, in each way that some statement takes it
+-- The trees after the head, read in each way in which some statement takes them.
 record AreOperands (operands : StatementOperands) : Type 0 where
   single : (one : Single) → IfGot (operands.single one) IsSingle
   bind : (n : ℕ) → IfGot (operands.bind n) (IsCounted n)

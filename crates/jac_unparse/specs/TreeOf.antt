@@ -15,7 +15,7 @@ use Rattle.jac_lang.specs.declared.pages.Verb.TheVariants as verbs
 use Rattle.jac_tree.specs.Plain.{PlainTree, PlainTrees}
 use Rattle.jac_forms.specs.Applications.{application_of_tree}
 
--- one, two or three trees
+-- One, two or three trees.
 abbrev pub one : PlainTree → PlainTrees
 one t = PlainTrees.more t PlainTrees.none
 
@@ -25,11 +25,11 @@ two_trees t u = PlainTrees.more t (one u)
 abbrev pub three : PlainTree → PlainTree → PlainTree → PlainTrees
 three t u v = PlainTrees.more t (two_trees u v)
 
--- `(word tree ..)`
+-- `(word tree ..)`.
 abbrev pub form : List ℕ → PlainTrees → PlainTree
 form word ts = PlainTree.list (PlainTrees.more (PlainTree.atom word) ts)
 
--- `(NAME tree)`
+-- `(NAME tree)`.
 abbrev pub pair : List ℕ → PlainTree → PlainTree
 pair name t = PlainTree.list (two_trees (PlainTree.atom name) t)
 
@@ -46,20 +46,20 @@ op_word ops.Lt = codes "lt"
 op_word ops.And = codes "and"
 op_word ops.Or = codes "or"
 
--- `((NAME MODEL) ..)`
+-- `((NAME MODEL) ..)`.
 abbrev pub trees_of_binders : List Binder → PlainTrees
 trees_of_binders [] = PlainTrees.none
 trees_of_binders (b ∷ bs) = PlainTrees.more (pair b.name (PlainTree.atom b.model))
     (trees_of_binders bs)
 
--- `key`, `(up BINDER FIELD)` or `(down BINDER FIELD)`
+-- `key`, `(up BINDER FIELD)` or `(down BINDER FIELD)`.
 abbrev pub tree_of_order : Order → PlainTree
 tree_of_order orders.Key = PlainTree.atom (codes "key")
 tree_of_order (orders.Up x f) = form (codes "up") (two_trees (PlainTree.atom x) (PlainTree.atom f))
 tree_of_order (orders.Down x f) = form (codes "down") (two_trees (PlainTree.atom x)
     (PlainTree.atom f))
 
--- `(from ((NAME MODEL) ..) condition order)`
+-- `(from ((NAME MODEL) ..) condition order)`.
 abbrev pub tree_of_query : List Binder → PlainTree → Order → PlainTree
 tree_of_query bs cond o = form (codes "from") (three (PlainTree.list (trees_of_binders bs)) cond
     (tree_of_order o))
@@ -101,17 +101,17 @@ abbrev mutual
 abbrev pub tree_of_question : Question → PlainTree
 tree_of_question q = tree_of_query q.binders (tree_of_expression q.cond) q.order
 
--- `(NAME expression) ..`
+-- `(NAME expression) ..`.
 abbrev pub trees_of_assigned : List Assigned → PlainTrees
 trees_of_assigned [] = PlainTrees.none
 trees_of_assigned (a ∷ cells) = PlainTrees.more (pair a.field (tree_of_expression a.value))
     (trees_of_assigned cells)
 
--- `(set (NAME expression) ..)`
+-- `(set (NAME expression) ..)`.
 abbrev pub tree_of_set : List Assigned → PlainTree
 tree_of_set cells = form (codes "set") (trees_of_assigned cells)
 
--- a block is what a template was expanded to: no application that was read has one
+-- A block is the expansion of a template. No application that was read has one.
 abbrev mutual
   pub tree_of_statement : Statement → PlainTree
   tree_of_statement (Statement.put e) = form (codes "put") (one (tree_of_expression e))
@@ -148,18 +148,18 @@ tree_of_kind kinds.Text = PlainTree.atom (codes "text")
 tree_of_kind kinds.Bool = PlainTree.atom (codes "bool")
 tree_of_kind (kinds.Ref m) = form (codes "ref") (one (PlainTree.atom m))
 
--- `(NAME kind) ..`
+-- `(NAME kind) ..`.
 abbrev pub trees_of_fields : List Field → PlainTrees
 trees_of_fields [] = PlainTrees.none
 trees_of_fields (f ∷ fs) = PlainTrees.more (pair f.name (tree_of_kind f.kind)) (trees_of_fields fs)
 
--- `hides` where the whole record is hidden, else `(guards (NAME expression) ..)`
+-- `hides` if the whole record is hidden, or else `(guards (NAME expression) ..)`.
 abbrev pub tree_of_guarding : Bool → List Assigned → PlainTree
 tree_of_guarding true guards = PlainTree.atom (codes "hides")
 tree_of_guarding false guards = form (codes "guards") (trees_of_assigned guards)
 
 -- `(group hides (policy expression))` or `(group (guards (NAME expression) ..) (policy
--- expression))`
+-- expression))`.
 abbrev pub tree_of_group : FieldGroup → PlainTree
 tree_of_group g = form (codes "group") (two_trees (tree_of_guarding g.hides g.guards)
     (form (codes "policy") (one (tree_of_expression g.policy))))
@@ -168,17 +168,17 @@ abbrev pub trees_of_groups : List FieldGroup → PlainTrees
 trees_of_groups [] = PlainTrees.none
 trees_of_groups (g ∷ gs) = PlainTrees.more (tree_of_group g) (trees_of_groups gs)
 
--- `nested`, where the model is, before other trees
+-- `nested`, if the model is nested, before the other trees.
 abbrev pub nested_before : Bool → PlainTrees → PlainTrees
 nested_before true ts = PlainTrees.more (PlainTree.atom (codes "nested")) ts
 nested_before false ts = ts
 
--- `(fields field ..) group ..`
+-- `(fields field ..) group ..`.
 abbrev pub trees_of_parts : Entity → PlainTrees
 trees_of_parts m = PlainTrees.more (form (codes "fields") (trees_of_fields m.fields))
     (trees_of_groups m.groups)
 
--- `(model NAME (fields field ..) group ..)` or `(model NAME nested (fields field ..) group ..)`
+-- `(model NAME (fields field ..) group ..)` or `(model NAME nested (fields field ..) group ..)`.
 abbrev pub tree_of_entity : Entity → PlainTree
 tree_of_entity m = form (codes "model") (PlainTrees.more (PlainTree.atom m.name)
     (nested_before m.nested (trees_of_parts m)))
@@ -187,7 +187,7 @@ abbrev pub method_word : Verb → List ℕ
 method_word verbs.Get = codes "get"
 method_word verbs.Post = codes "post"
 
--- `(view method "path" (params parameter ..) statement ..)`
+-- `(view method "path" (params parameter ..) statement ..)`.
 abbrev pub tree_of_page : Page → PlainTree
 tree_of_page v =
     form (codes "view") (PlainTrees.more (PlainTree.atom (method_word v.method))
@@ -199,22 +199,22 @@ abbrev pub trees_of_pages : List Page → PlainTrees
 trees_of_pages [] = PlainTrees.none
 trees_of_pages (v ∷ vs) = PlainTrees.more (tree_of_page v) (trees_of_pages vs)
 
--- the models, before other trees
+-- The models, before the other trees.
 abbrev pub models_before : List Entity → PlainTrees → PlainTrees
 models_before [] ts = ts
 models_before (m ∷ ms) ts = PlainTrees.more (tree_of_entity m) (models_before ms ts)
 
--- `(viewer NAME)`, where a model is named, before other trees
+-- `(viewer NAME)`, if a model is named, before the other trees.
 abbrev pub viewer_before : Option (List ℕ) → PlainTrees → PlainTrees
 viewer_before None ts = ts
 viewer_before (Some name) ts = PlainTrees.more (form (codes "viewer") (one (PlainTree.atom name)))
     ts
 
--- `(app (viewer NAME)? model .. view ..)`
+-- `(app (viewer NAME)? model .. view ..)`.
 abbrev pub tree_of_application : Application → PlainTree
 tree_of_application a =
     form (codes "app") (viewer_before a.viewer (models_before a.models (trees_of_pages a.views)))
 
--- some tree writes the application
+-- Some tree is read as the application.
 abbrev pub IsReadable : Application → Type 0
 IsReadable a = (t : PlainTree) × (application_of_tree t ≡ Some a)

@@ -16,9 +16,9 @@ use jac_tree::{Tree, Trees};
 use jac_value::{Memory, Txt};
 use std::alloc::Global;
 
-/// The tree that an application is written as. `app_of` gives the application of it, for each
-/// application that `app_of` has given. The block of an expanded template has no form of its own:
-/// it is written as a list that begins with `block`, which `app_of` refuses.
+/// The tree of an application. If the application is a result of `app_of`, `app_of` gives it for
+/// this tree. The block of an expanded template has no form of its own. It is written as a list
+/// that begins with `block`, which `app_of` refuses.
 pub fn tree_of(alloc: Global, app: &App) -> Result<Tree, Memory>
     ensures tree { IfOk result (λ t. plain t ≡ tree_of_application (application_of app.now)) }
     ensures read { IfOk result (λ t. IsReadable (application_of app.now)
@@ -28,8 +28,8 @@ pub fn tree_of(alloc: Global, app: &App) -> Result<Tree, Memory>
     Ok(tree)
 }
 
-/// A law, with nothing to run: an application that some tree writes is the one of the tree that it
-/// is written as.
+/// A law: if some tree is read as an application, the tree that the application is written as is
+/// read as the same one.
 pub fn written_applications_are_read()
     ensures { (a : Application) → IsReadable a → application_in_tree [] (tree_of_application a)
         ≡ got a }
@@ -64,7 +64,7 @@ fn viewer_tree(alloc: Global, viewer: &Txt) -> Result<Tree, Memory>
     form_of_one(alloc, "viewer", viewer)
 }
 
-// The models, before the trees that are there.
+// The trees of the models, followed by the given trees.
 fn model_trees(alloc: Global, models: &[ModelDef], rest: Trees) -> Result<Trees, Memory>
     ensures { IfOk result (λ ts. plain_all ts ≡ models_before (entities_of models.now)
         (plain_all rest)) }

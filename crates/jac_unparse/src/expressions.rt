@@ -13,7 +13,7 @@ use jac_tree::{Tree, Trees};
 use jac_value::{Memory, Txt};
 use std::alloc::Global;
 
-/// The tree that an expression is written as.
+/// The tree of an expression.
 #[cycle(write)]
 pub fn expr_tree(alloc: Global, expr: &Expr) -> Result<Tree, Memory>
     ensures { IfOk result (λ t. plain t ≡ tree_of_expression (expression_of expr.now)) }
@@ -40,7 +40,7 @@ pub fn expr_tree(alloc: Global, expr: &Expr) -> Result<Tree, Memory>
     }
 }
 
-/// The tree that a query is written as.
+/// The tree of a query.
 #[cycle(write)]
 pub fn query_tree(alloc: Global, query: &Query) -> Result<Tree, Memory>
     ensures { IfOk result (λ t. plain t ≡ tree_of_question (question_of query.now)) }

@@ -1,5 +1,4 @@
-//! Back from applications to trees: the tree that an application is written as, which is read as
-//! the same application.
+//! Writes an application as a tree. This tree reads back as the same application.
 #![tactic(auto)]
 
 mod applications;

@@ -36,7 +36,7 @@ pub fn number_tree(alloc: Global, number: i64) -> Result<Tree, Memory>
     Ok(Tree::Atom(Txt::from_string(digits)))
 }
 
-/// The tree, and after it the others.
+/// The tree, followed by the others.
 pub fn more(alloc: Global, first: Tree, rest: Trees) -> Result<Trees, Memory>
     ensures { IfOk result (λ ts. plain_all ts ≡ PlainTrees.more (plain first) (plain_all rest)) }
 {
@@ -65,7 +65,7 @@ pub fn three(alloc: Global, first: Tree, second: Tree, third: Tree) -> Result<Tr
     more(alloc, first, rest)
 }
 
-/// The list that begins with the word.
+/// The list of the word and the trees.
 pub fn form(alloc: Global, word: &str, rest: Trees) -> Result<Tree, Memory>
     ensures { IfOk result (λ t. plain t ≡ form word.now (plain_all rest)) }
 {

@@ -169,7 +169,7 @@ fn set_tree(alloc: Global, cells: &Publics) -> Result<Tree, Memory>
     form(alloc, "set", trees)
 }
 
-/// Each name with its expression.
+/// A tree `(NAME expression)` for each field.
 pub fn assigned_trees(alloc: Global, cells: &Publics) -> Result<Trees, Memory>
     ensures { IfOk result (λ ts. plain_all ts ≡ trees_of_assigned (assigned_of cells.now)) }
 {

@@ -5,6 +5,6 @@ use Rattle.jac_tree.specs.Plain.{onto}
 use Rattle.jac_unparse.specs.TreeOf.{models_before}
 use Rattle.jac_unparse.proofs.applications.model_trees.Given as goal
 
--- the trees so far, turned round before those of the rest, are those of all
+-- The trees so far in reverse order, followed by those of the rest, are all trees.
 abbrev pub invariant-models : goal.invariant-models
 invariant-models l = onto (plain_all l.back) (models_before (entities_of (drop l.model-index l.models)) (plain_all l.rest)) ≡ models_before (entities_of l.models) (plain_all l.rest)

@@ -8,7 +8,7 @@ use Rattle.jac_tree.specs.Plain.{onto}
 use Rattle.jac_unparse.specs.TreeOf.{trees_of_expressions}
 use Rattle.jac_unparse.proofs.expressions.+write.Given as goal
 
--- the trees so far, turned round before those of the rest, are those of all
+-- The trees so far in reverse order, followed by those of the rest, are all trees.
 abbrev pub invariant-part_trees-parts : goal.invariant-part_trees-parts
 invariant-part_trees-parts l = record {
   no_deeper : size-Exprs l.left ≤ size-Exprs l.parts;

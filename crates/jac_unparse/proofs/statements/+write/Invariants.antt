@@ -7,7 +7,7 @@ use Rattle.jac_tree.specs.Plain.{onto}
 use Rattle.jac_unparse.specs.TreeOf.{trees_of_statements}
 use Rattle.jac_unparse.proofs.statements.+write.Given as goal
 
--- the trees so far, turned round before those of the rest, are those of all
+-- The trees so far in reverse order, followed by those of the rest, are all trees.
 abbrev pub invariant-stmt_trees-statements : goal.invariant-stmt_trees-statements
 invariant-stmt_trees-statements l = record {
   no_deeper : size-Stmts l.left ≤ size-Stmts l.body;
