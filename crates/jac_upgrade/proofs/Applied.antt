@@ -1,4 +1,4 @@
--- What a state is after the alterations of all its records.
+-- A state after the alterations of all its records.
 use Rattle.std.proofs.Common.{◌≡◌, ◌∙◌, refl, ap, sym, subst, arith, zero, suc, ℕ, ◌+◌, ◌-◌, ◌<◌, ◌≤◌, ◌==◌, Bool, true, false, if◌then◌else◌, List, [], ◌∷◌, ◌++◌, length, map, Option, Some, None, unwrap_or}
 use Rattle.std.proofs.lemmas.List.{length-map, map-append}
 use Rattle.std.specs.List.{AllByRecursion}
@@ -33,7 +33,7 @@ use Rattle.jac_upgrade.specs.Upgraded.{empty_tables, group_count, upgraded_state
 use Rattle.jac_upgrade.proofs.Extensional.{rising_upgraded, same_rows, upgraded_of}
 use Rattle.jac_upgrade.proofs.Modeling.{made_there, table_of}
 
--- the change that keeps the number
+-- The change with these alterations that keeps the number.
 abbrev pub change_of : List Alteration → State → Change
 change_of changed s = record { changed = changed; number = s.number }
 
@@ -49,7 +49,7 @@ few_all w olds news m id cs few = few_if (stays news w m id (group_count olds m)
 few_shown : (w : ℕ → Bool) (s : State) (id : ℕ) → IsSound s → length (cells_at w (alternatives id (rows_of s.tables (model_of_id id)))) ≤ 1
 few_shown w s id sound = few_cells w id (rows_of s.tables (model_of_id id)) (table_of s (model_of_id id) sound).rising
 
--- each alteration may stand
+-- Each alteration is valid in the state.
 stands : (olds news : List Entity) (s : State) (a : Alteration) → IsSound s → IsUpgradeOf olds news s a → MayStand s.number a.id a.rows
 stands olds news s a sound is =
     let m : ℕ = model_of_id a.id in
@@ -75,7 +75,7 @@ placed_all : (olds news : List Entity) (s : State) (changed : List Alteration) �
 placed_all olds news s [] same all = tt
 placed_all olds news s (a ∷ rest) same all = (subst (λ n. model_of_id a.id < n) (sym same) all.0.within, placed_all olds news s rest same all.1)
 
--- the alterations of a state with a table for each model, all of whose records are altered
+-- A state with a table for each model, and alterations of all its records.
 pub record Changes (olds news : List Entity) (s : State) (changed : List Alteration) : Type 0 where
   pub sound : IsSound s
   pub tables : length s.tables ≡ length olds
@@ -88,7 +88,7 @@ sound_of olds news s changed c = sound_after olds news s changed c.sound c.below
 placed_of : (olds news : List Entity) (s : State) (changed : List Alteration) → Changes olds news s changed → ArePlaced changed (length s.tables)
 placed_of olds news s changed c = placed_all olds news s changed c.tables c.below.each
 
--- what holds of all alterations holds of the one that is named
+-- A property of all alterations holds for the alteration of a record.
 named_if : (P : Alteration → Type 0) (id : ℕ) (a : Alteration) (rest : List Alteration) (rows : List Row) (b : Bool) → (a.id == id) ≡ b → P a
     → (alternatives_named id rest ≡ Some rows → P (record { id = id; rows = rows })) → (if b then Some a.rows else alternatives_named id rest) ≡ Some rows → P (record { id = id; rows = rows })
 named_if P id a rest rows true same p later h =
@@ -121,13 +121,13 @@ both_ways : (b : Bool) → b ≡ true → b ≡ false → ⊥
 both_ways true h k = cc
 both_ways false h k = cc
 
--- of a record that isn't named there is no row
+-- A record that isn't altered has no row.
 pub none_left : (olds news : List Entity) (s : State) (changed : List Alteration) (id : ℕ) → Changes olds news s changed → model_of_id id < length olds → alternatives_named id changed ≡ None
     → alternatives id (rows_of s.tables (model_of_id id)) ≡ []
 none_left olds news s changed id c within h =
     none_there id (rows_of s.tables (model_of_id id)) (λ there. both_ways (is_changed id changed) (c.below.named id within there) (unnamed id changed h))
 
--- the alternatives of a record that is named
+-- The rows of a record that is altered.
 pub renewed_of : (olds news : List Entity) (s : State) (changed : List Alteration) (id : ℕ) (rows : List Row) → Changes olds news s changed → alternatives_named id changed ≡ Some rows
     → IsUpgradeOf olds news s (record { id = id; rows = rows })
 renewed_of olds news s changed id rows c h = named_all (IsUpgradeOf olds news s) id changed rows c.below.each h
@@ -153,18 +153,18 @@ shown_by w olds news s changed id None c within h =
 shown_by w olds news s changed id (Some rows) c within h =
     (renewed_of olds news s changed id rows c h).upgrade.renewed.shown w (few_shown w s id c.sound)
 
--- what a record shows after the change
+-- What a record shows after the change.
 cells_after : (w : ℕ → Bool) (olds news : List Entity) (s : State) (changed : List Alteration) (id : ℕ) → Changes olds news s changed → model_of_id id < length olds
     → cells_at w (alternatives id (table_after changed s (model_of_id id)))
     ≡ upgraded_all w olds news (model_of_id id) id (cells_at w (alternatives id (rows_of s.tables (model_of_id id))))
 cells_after w olds news s changed id c within =
     ap (cells_at w) (after_change olds news s changed id c) ∙ shown_by w olds news s changed id (alternatives_named id changed) c within refl
 
--- no record of another model has rows
+-- No record of another model has rows.
 pub none_other : (next m id : ℕ) (rows : List Row) → AllByRecursion (λ (r : Row). IsMade m next r.id) rows → (model_of_id id ≡ m → ⊥) → alternatives id rows ≡ []
 none_other next m id rows made other = none_there id rows (λ there. other (made_there next m id rows made there).of_model)
 
--- the rows of an id that a table shows
+-- The rows of an id that a table shows.
 rows_shown : (w : ℕ → Bool) (id : ℕ) (table : List Row) → with_ids (λ i. i == id) (rows_at w table) ≡ map (plain_row id) (cells_at w (alternatives id table))
 rows_shown w id table = sym (with_ids_at w (λ i. i == id) table) ∙ rows_named w id (alternatives id table) (of-alternatives id table)
 
@@ -194,7 +194,7 @@ id_shown w olds news s changed m id c within false e =
     ∙ ap (map (plain_row id)) (sym (nothing_left w olds news m id))
     ∙ ap (λ rows. map (plain_row id) (upgraded_all w olds news m id (cells_at w rows))) (sym before)
 
--- a table after the change shows what an upgrade leaves of what it showed
+-- After the change, a table shows the upgrade of what it showed before.
 table_shown : (w : ℕ → Bool) (olds news : List Entity) (s : State) (changed : List Alteration) (m : ℕ) → Changes olds news s changed → m < length olds
     → rows_at w (table_after changed s m) ≡ upgraded_rows w olds news m (rows_at w (rows_of s.tables m))
 table_shown w olds news s changed m c within =
@@ -203,7 +203,7 @@ table_shown w olds news s changed m c within =
     (rising_upgraded w olds news m (rows_at w (rows_of s.tables m)) (rising_at w (rows_of s.tables m) (table_of s m c.sound).rising))
     (λ id. id_shown w olds news s changed m id c within (model_of_id id == m) refl ∙ sym (upgraded_shown w olds news m id (rows_of s.tables m)))
 
--- all tables
+-- All tables.
 tables_from : (w : ℕ → Bool) (olds news : List Entity) (changed : List Alteration) (k : ℕ) (ts : List (List Row))
     → ((i : ℕ) → i < length ts → rows_at w (altered_rows (k + i) changed (rows_of ts i)) ≡ upgraded_rows w olds news (k + i) (rows_at w (rows_of ts i)))
     → map (rows_at w) (overlaid_from k changed ts) ≡ upgraded_tables w olds news k (map (rows_at w) ts)
@@ -236,7 +236,7 @@ empty_shown : (w : ℕ → Bool) (n : ℕ) → map (rows_at w) (empties n) ≡ e
 empty_shown w zero = refl
 empty_shown w (suc n) = ap (λ ts. [] ∷ ts) (empty_shown w n)
 
--- the state after the change, with empty tables for the added models, shows the upgraded one
+-- The state after the change, with empty tables for the added models, shows the upgraded state.
 pub law_shows : (w : ℕ → Bool) (olds news : List Entity) (s : State) (changed : List Alteration) (c : Change) → c ≡ change_of changed s → Changes olds news s changed
     → project_at w (widened_state (length news) (changed_state c s)) ≡ upgraded_state w olds news (project_at w s)
 law_shows w olds news s changed c is all =

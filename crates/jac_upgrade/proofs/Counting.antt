@@ -1,4 +1,4 @@
--- How many groups a model has.
+-- The number of groups of a model.
 use Rattle.std.proofs.Common.{◌≡◌, ◌∙◌, refl, ap, sym, ℕ, List, length}
 use Rattle.jac_lang.specs.declared.schema.Group.{Group}
 use Rattle.jac_lang.specs.Lookup.{groups_at}

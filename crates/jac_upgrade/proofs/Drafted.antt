@@ -16,7 +16,7 @@ use Rattle.jac_write.specs.Writes.{cells_at}
 use Rattle.jac_upgrade.specs.Steps.{drafted_row, upgraded_all}
 use Rattle.jac_upgrade.specs.Upgraded.{draft_of, group_count, upgraded_cells}
 
--- no field is meant by it
+-- A placeholder that isn't a field of any model.
 no_field : Field
 no_field = record { name = []; kind = kinds.Int }
 
@@ -26,7 +26,7 @@ default_next models fields f below =
     ap (default_cells models) (drop-cons fields f no_field below)
     ∙ ap (λ (v : Value). v ∷ default_cells models (drop (suc f) fields)) (ap default_value (sym (ap (kind_in models) (slice_get-get_or fields f no_field below))))
 
--- one default more
+-- One more default.
 pub default_pushed : (models : List Entity) (fields : List Field) (f : ℕ) (made new all : List Value) (v : Value) → f < length fields → new ≡ made ++ v ∷ [] → v ≡ default_value (kind_at models fields f)
     → made ++ default_cells models (drop f fields) ≡ all → new ++ default_cells models (drop (f + 1) fields) ≡ all
 default_pushed models fields f made new all v below is value so_far =
@@ -42,7 +42,7 @@ drafted_if : (olds news : List Entity) (m : ℕ) (b : Bool) (c : List Value) (cs
 drafted_if olds news m true c cs ds e = ap (λ l. draft_of olds news m c ∷ l) e
 drafted_if olds news m false c cs ds e = e
 
--- what drafts show
+-- What drafts show.
 cells_drafted : (w : ℕ → Bool) (olds news : List Entity) (m : ℕ) (rows : List Row) → cells_at w (map (drafted_row olds news m) rows) ≡ map (draft_of olds news m) (cells_at w rows)
 cells_drafted w olds news m [] = refl
 cells_drafted w olds news m (r ∷ rows) =
@@ -53,7 +53,7 @@ stored_each : (w : ℕ → Bool) (olds news : List Entity) (m id : ℕ) (cs : Li
 stored_each w olds news m id [] = refl
 stored_each w olds news m id (c ∷ cs) = ap (λ l. upgraded_cells w olds news m id c ∷ l) (stored_each w olds news m id cs)
 
--- what is stored of the drafts is what an upgrade leaves
+-- What is stored of the drafts is the result of the upgrade.
 pub upgraded_drafts : (w : ℕ → Bool) (olds news : List Entity) (m id first : ℕ) (rows drafts : List Row) (new : List (List Value))
     → drafts ≡ map (drafted_row olds news m) rows → first ≡ group_count olds m
     → (length (cells_at w drafts) ≤ 1 → new ≡ regrouped_cells news w m id first (cells_at w drafts))

@@ -1,4 +1,4 @@
--- Plain rows of rising ids are known by the rows of each id.
+-- Plain rows with rising ids are determined by the rows of each id.
 use Rattle.std.proofs.Common.{◌≡◌, ◌∙◌, inl, inr, refl, ap, sym, subst, arith, ℕ, ◌<◌, ◌==◌, Bool, true, false, if◌then◌else◌, List, [], ◌∷◌, map}
 use Rattle.std.proofs.lemmas.Bool.{cases_order, eqb-true}
 use Rattle.jac_world.specs.World.{StartsAboveBy}
@@ -22,7 +22,7 @@ lesser : (a b : ℕ) (rows : List PlainRow) → a < b → Above b rows → Above
 lesser a b [] less above = tt
 lesser a b (r ∷ rows) less above = omega (arith, less, above)
 
--- rows above an id have none of it
+-- Rows above an id have no row with this id.
 none_of : (id : ℕ) (rows : List PlainRow) → Above id rows → ArePlainRows rows → of_id id rows ≡ []
 none_of id [] above rising = refl
 none_of id (r ∷ rows) above rising =
@@ -32,7 +32,7 @@ none_of id (r ∷ rows) above rising =
 first_of : (r : PlainRow) (rows : List PlainRow) → of_id r.id (r ∷ rows) ≡ r ∷ of_id r.id rows
 first_of r rows = rw (same_id r.id) refl
 
--- a lesser id than all of these has no row here
+-- An id below all of these has no row here.
 none_lesser : (id : ℕ) (r : PlainRow) (rows : List PlainRow) → id < r.id → ArePlainRows (r ∷ rows) → of_id id (r ∷ rows) ≡ []
 none_lesser id r rows less rising = none_of id (r ∷ rows) less rising
 
@@ -50,7 +50,7 @@ abbrev head_or : PlainRow → List PlainRow → PlainRow
 head_or d [] = d
 head_or d (r ∷ rows) = r
 
--- rows of rising ids that have the same rows of each id are the same
+-- Rows with rising ids are equal if they have the same rows of each id.
 pub same_rows : (xs ys : List PlainRow) → ArePlainRows xs → ArePlainRows ys → ((id : ℕ) → of_id id xs ≡ of_id id ys) → xs ≡ ys
 same_rows [] [] rising others same = refl
 same_rows [] (y ∷ ys) rising others same = let h : [] ≡ y ∷ of_id y.id ys = same y.id ∙ first_of y ys in cc
@@ -68,7 +68,7 @@ same_rows (x ∷ xs) (y ∷ ys) rising others same = elim (cases_order x.id y.id
   | inr (inr more) ↦ (let h : [] ≡ y ∷ of_id y.id ys = sym (none_lesser y.id x xs more rising) ∙ same y.id ∙ first_of y ys in absurd (cc))
 ]
 
--- what an upgrade leaves of rows has rising ids, and of each record what it leaves of its row
+-- Upgraded rows have rising ids, and for each record the upgrade of its row.
 above_if : (id : ℕ) (r : PlainRow) (rows : List PlainRow) (b : Bool) → id < r.id → Above id rows → Above id (if b then r ∷ rows else rows)
 above_if id r rows true less above = less
 above_if id r rows false less above = above
@@ -89,11 +89,11 @@ rising_upgraded w olds news m (r ∷ rows) rising =
     rising_if (upgraded_row w olds news m r) (upgraded_rows w olds news m rows) (stays news w m r.id (group_count olds m))
     (above_upgraded w olds news m r.id rows rising.0 rising.1) (rising_upgraded w olds news m rows rising.1)
 
--- the cells of rows of one id
+-- The cells of rows of one id.
 abbrev all_cells : (ℕ → Bool) → List Entity → List Entity → ℕ → ℕ → List PlainRow → List PlainRow
 all_cells w olds news m id rows = map (plain_row id) (upgraded_all w olds news m id (map cells rows))
 
--- whether the row is of this id, and whether its record stays
+-- Whether the row has this id, and whether its record stays.
 row_if : (w : ℕ → Bool) (olds news : List Entity) (m id : ℕ) (r : PlainRow) (rows upgraded : List PlainRow) (same there : Bool) → (r.id == id) ≡ same → stays news w m r.id (group_count olds m) ≡ there
     → of_id id upgraded ≡ all_cells w olds news m id (of_id id rows)
     → of_id id (if there then upgraded_row w olds news m r ∷ upgraded else upgraded) ≡ all_cells w olds news m id (if same then r ∷ of_id id rows else of_id id rows)

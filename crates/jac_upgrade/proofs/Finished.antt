@@ -1,4 +1,4 @@
--- An upgrade of what a keeper tells.
+-- An upgrade, if the contents of the keeper are known.
 use Rattle.std.proofs.Common.{◌≡◌, ◌∙◌, ap, subst, ℕ, ◌≤◌, Bool, IsTrue, List, None, length}
 use Rattle.jac_check.specs.Well.{is_well}
 use Rattle.jac_lang.specs.declared.schema.ModelDef.{ModelDef}
@@ -27,7 +27,7 @@ pub models_within : (olds news : List ModelDef) → models_lack 0 (entities_of o
 models_within olds news h =
     subst (λ n. n ≤ length news) (length-entities olds) (subst (λ n. length (entities_of olds) ≤ n) (length-entities news) (at_least (entities_of olds) (entities_of news) h))
 
--- what was read of a keeper, the number first and then all rows
+-- What was read from a keeper: the number first, and then all rows.
 pub record Told (app new : Application) (before middle after : KeeperSeen) (number : ℕ) (changed : List Alteration) : Type 0 where
   pub first : IsLeft before middle
   pub second : IsLeft middle after

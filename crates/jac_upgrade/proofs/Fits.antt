@@ -1,4 +1,4 @@
--- The state after an upgrade is one of the new application.
+-- The state after an upgrade fits the new application.
 use Rattle.std.proofs.Common.{◌≡◌, ◌∙◌, refl, ap, sym, subst, arith, zero, suc, ℕ, ◌+◌, ◌-◌, ◌<◌, ◌≤◌, ◌==◌, ◌&&◌, Bool, true, false, if◌then◌else◌, IsTrue, List, [], ◌∷◌, ◌++◌, length, drop, map, Option, Some, None, unwrap_or}
 use Rattle.std.proofs.lemmas.Bool.{and_parts, and_from, eqb-true}
 use Rattle.std.specs.Prelude.{slice_get, IsSomeAnd}
@@ -40,7 +40,7 @@ use Rattle.jac_upgrade.proofs.Modeling.{IsTableOf, made_there, table_of}
 use Rattle.jac_upgrade.proofs.Prefixes.{at_least, kinds_grown, same_nested}
 use Rattle.jac_upgrade.proofs.Walking.{all_mapped, same_id}
 
--- cells of the kinds of the model's fields
+-- The cells have the kinds of the model's fields.
 abbrev Fits : List Entity → ℕ → List Value → Type 0
 Fits models m cells = have_kinds (kinds_of_fields models (fields_at models m)) cells ≡ true
 
@@ -64,7 +64,7 @@ kinds_append (k ∷ ks) ls (c ∷ cs) ds p q =
     let parts = and_parts (has_kind k c) (have_kinds ks cs) p in
     and_from (has_kind k c) (have_kinds (ks ++ ls) (cs ++ ds)) parts.0 (kinds_append ks ls cs ds parts.1 q)
 
--- a draft, and what is stored of it
+-- A draft, and what is stored of it.
 draft_fits : (app : Application) (news : List Entity) (m : ℕ) (cells : List Value) → IsTrue (is_well app) → models_lack 0 app.models news ≡ None → m < length app.models
     → Fits app.models m cells → Fits news m (draft_of app.models news m cells)
 draft_fits app news m cells well h within fits =
@@ -89,7 +89,7 @@ upgraded_fit w app news m id cs well h within all = fit_if (stays news w m id (g
   fit_if true = all_fit w app news m id cs well h within all
   fit_if false = tt
 
--- cells that are shown somewhere
+-- Cells that some assignment shows.
 module _ (Q : List Value → Type 0) where
   shown_if : (b : Bool) (c : List Value) (cs : List (List Value)) → b ≡ true → AllByRecursion Q (if b then c ∷ cs else cs) → Q c
   shown_if true c cs h all = all.0
@@ -99,7 +99,7 @@ module _ (Q : List Value → Type 0) where
   later_if true c cs all = all.1
   later_if false c cs all = all
 
-  -- what holds of all cells that are shown holds of all rows whose guards can be met
+  -- A property of all cells that are shown holds for all rows whose guards can hold.
   each_shown : (rows : List Row) → AreMet rows → ((w : ℕ → Bool) → AllByRecursion Q (cells_at w rows)) → AllByRecursion (λ (r : Row). Q r.cells) rows
   each_shown [] met all = tt
   each_shown (r ∷ rows) met all = (
@@ -132,7 +132,7 @@ module _ (P : Row → Type 0) where
   rest_if true r rows all = all.1
   rest_if false r rows all = all
 
-  -- what holds of the alternatives of each record holds of all rows
+  -- A property of the rows of each record holds for all rows.
   each_record : (rows : List Row) → ((id : ℕ) → AllByRecursion P (alternatives id rows)) → AllByRecursion P rows
   each_record [] all = tt
   each_record (r ∷ rows) all = (
@@ -140,7 +140,7 @@ module _ (P : Row → Type 0) where
     each_record rows (λ id. rest_if (r.id == id) r (alternatives id rows) (all id)),
   )
 
--- the shape of a model
+-- The shape of a model.
 shape_to : (all models : List Entity) (m id : ℕ) (cells : List Value) → m < length models → have_kinds (kinds_of_fields all (fields_at models m)) cells ≡ true → is_wide id ≡ is_nested_at models m
     → IsSomeAnd (slice_get (shapes_of_models all models) m) (λ s. IsShaped s id cells)
 shape_to all [] m id cells within h w = absurd (omega (arith, within))
@@ -157,7 +157,7 @@ length_shapes : (all models : List Entity) → length (shapes_of_models all mode
 length_shapes all [] = refl
 length_shapes all (e ∷ models) = ap suc (length_shapes all models)
 
--- a table of a state that fits
+-- A table of a state that fits.
 table_in : (IsRow : ℕ → Row → Type 0) (from i : ℕ) (tables : List (List Row)) → AreTablesOf AreRising IsRow from tables → AllByRecursion (IsRow (from + i)) (rows_of tables i)
 table_in IsRow from i [] h = tt
 table_in IsRow from zero (t ∷ ts) h =
@@ -173,7 +173,7 @@ records_of shapes s m good =
     subst (λ k. AllByRecursion (λ (r : Row). IsRecord shapes k s.number r.id r.cells) (rows_of s.tables m)) here
     (table_in (λ model (r : Row). IsRecord shapes model s.number r.id r.cells) 0 m s.tables good.1)
 
--- a row of a record that has one
+-- A row of a record that has one.
 wide_if : (id k : ℕ) (nested b later : Bool) → (k == id) ≡ b → is_wide k ≡ nested → (later ≡ true → is_wide id ≡ nested) → (if b then true else later) ≡ true → is_wide id ≡ nested
 wide_if id k nested true later same one rest h = subst (λ i. is_wide i ≡ nested) (eqb-true k id same) one
 wide_if id k nested false later same one rest h = rest h
@@ -190,14 +190,14 @@ own_record : (shapes : List ModelShape) (m next id : ℕ) (rows : List Row) → 
 own_record shapes m next id [] own all = tt
 own_record shapes m next id (r ∷ rows) own all = (subst (λ i. IsRecord shapes m next i r.cells) (sym own.0) all.0, own_record shapes m next id rows own.1 all.1)
 
--- the premises of an upgrade
+-- The premises of an upgrade.
 pub record Upgrading (app new : Application) (s : State) (changed : List Alteration) : Type 0 where
   pub well : IsTrue (is_well app)
   pub extends : models_lack 0 app.models new.models ≡ None
   pub fit : IsFit (shapes_of app) s
   pub all : Changes app.models new.models s changed
 
--- the alternatives of a record after the change
+-- The rows of a record after the change.
 module _ (app new : Application) (s : State) (changed : List Alteration) (u : Upgrading app new s changed) where
   abbrev IsRecordOf : ℕ → Row → Type 0
   IsRecordOf m r = IsRecord (shapes_of new) m s.number r.id r.cells
@@ -205,7 +205,7 @@ module _ (app new : Application) (s : State) (changed : List Alteration) (u : Up
   old_records : (m : ℕ) → AllByRecursion (λ (r : Row). IsRecord (shapes_of app) m s.number r.id r.cells) (rows_of s.tables m)
   old_records m = records_of (shapes_of app) s m u.fit.good
 
-  -- of one that is named
+  -- The rows of a record that is altered.
   named_records : (id : ℕ) (rows : List Row) → model_of_id id < length app.models → IsUpgradeOf app.models new.models s (record { id = id; rows = rows }) → AllByRecursion (IsRecordOf (model_of_id id)) rows
   named_records id rows within is =
       let m : ℕ = model_of_id id in
@@ -247,7 +247,7 @@ module _ (app new : Application) (s : State) (changed : List Alteration) (u : Up
   table_records : (m : ℕ) → m < length app.models → AllByRecursion (IsRecordOf m) (table_after changed s m)
   table_records m within = each_record (IsRecordOf m) (table_after changed s m) (λ id. id_records m id (model_of_id id == m) within refl)
 
--- tables of which each is one of its model
+-- Tables, each of which belongs to its model.
 tables_by : (IsRow : ℕ → Row → Type 0) (from : ℕ) (ts : List (List Row)) → ((i : ℕ) → i < length ts → AreRising (rows_of ts i) × AllByRecursion (IsRow (from + i)) (rows_of ts i))
     → AreTablesOf AreRising IsRow from ts
 tables_by IsRow from [] h = tt
@@ -296,7 +296,7 @@ law_fits app new s changed c is u =
           omega (arith, long, shapes, same, more));
     })
 
--- the premises together
+-- All premises together.
 pub upgrading : (app new : Application) (s : State) (changed : List Alteration) → IsTrue (is_well app) → models_lack 0 app.models new.models ≡ None → IsFit (shapes_of app) s
     → AreApart changed → AltersBelow app.models new.models s (length app.models) changed → Upgrading app new s changed
 upgrading app new s changed well extends fit apart below = record {

@@ -62,7 +62,7 @@ models_itself m (e ∷ es) = rw (model_itself m e) (models_itself (m + 1) es)
 pub law_extends : (models : List Entity) → models_lack 0 models models ≡ None
 law_extends models = models_itself 0 models
 
--- no group of an application is one that was added to it
+-- No group of an application is an added one in an upgrade to itself.
 
 not_from : (n g : ℕ) → g < n → nat_le n g ≡ false
 not_from n g h = grind (arith, nat_tests, h)

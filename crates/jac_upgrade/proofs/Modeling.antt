@@ -16,7 +16,7 @@ use Rattle.jac_upgrade.specs.Changed.{has_alternative}
 use Rattle.jac_upgrade.specs.Steps.{AltersBelow, AltersRows, IsUpgradeIn, IsUpgradeOf, is_changed}
 use Rattle.jac_upgrade.proofs.Walking.{all_append, all_mapped, changed_append}
 
--- a table of a sound state
+-- A table of a sound state.
 pub record IsTableOf (next m : ℕ) (rows : List Row) : Type 0 where
   pub rising : AreRising rows
   pub made : AllByRecursion (λ (r : Row). IsMade m next r.id) rows
@@ -35,7 +35,7 @@ table_of s m sound =
     let here : 0 + m ≡ m = omega arith in
     subst (λ k. IsTableOf s.number k (rows_of s.tables m)) here (table_at s.number 0 m s.tables sound.tables)
 
--- a record that has a row was made
+-- A record that has a row was made.
 made_case : (next m id k : ℕ) (b later : Bool) → (k == id) ≡ b → IsMade m next k → (later ≡ true → IsMade m next id) → (if b then true else later) ≡ true → IsMade m next id
 made_case next m id k true later same one rest h = subst (λ i. IsMade m next i) (eqb-true k id same) one
 made_case next m id k false later same one rest h = rest h
@@ -59,7 +59,7 @@ upgrade_of olds news s m a within h =
       upgrade = subst (λ k. IsUpgradeIn olds news k (rows_of s.tables k) a) same h;
     }
 
--- one model more
+-- One more model.
 pub below_next : (olds news : List Entity) (s : State) (m : ℕ) (made new : List Alteration) → IsSound s → m < length olds → AltersBelow olds news s m made
     → AltersRows olds news m (rows_of s.tables m) made new → AltersBelow olds news s (m + 1) new
 below_next olds news s m made new sound within below rows =
@@ -79,7 +79,7 @@ below_next olds news s m made new sound within below rows =
     } in
     subst (λ xs. AltersBelow olds news s (m + 1) xs) (sym rows.added) all
 
--- two spans without a write
+-- Two spans without a write.
 pub left_then : (a b d : KeeperSeen) → IsLeft a b → IsLeft b d → IsLeft a d
 left_then a b d first second = record {
   later = omega (arith, first.later, second.later);
@@ -88,7 +88,7 @@ left_then a b d first second = record {
   same_store = second.same_store ∙ first.same_store;
 }
 
--- one model more, where the keeper tells
+-- One more model, if the contents of the keeper are known.
 pub below_step : (olds news : List Entity) (a b d : KeeperSeen) (m : ℕ) (made new : List Alteration) → IsLeft a b → IsLeft b d → m < length olds
     → (IsTrue b.tells → AltersBelow olds news a.state m made) → (IsTrue d.tells → IsSound b.state) → (IsTrue d.tells → AltersRows olds news m (rows_of b.state.tables m) made new)
     → IsTrue d.tells → AltersBelow olds news a.state (m + 1) new

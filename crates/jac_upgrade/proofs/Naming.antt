@@ -34,7 +34,7 @@ there_if : (F : ℕ → Bool) (id : ℕ) (a : Alteration) (rest : Bool) (b : Boo
 there_if F id a rest true same one later h = subst (λ i. F i ≡ true) (eqb-true a.id id same) one
 there_if F id a rest false same one later h = later h
 
--- each record that is named has a row
+-- Each record that is named has a row.
 rows_there : (olds news : List Entity) (s : State) (id : ℕ) (xs : List Alteration) → AllByRecursion (IsUpgradeOf olds news s) xs → is_changed id xs ≡ true
     → has_alternative id (rows_of s.tables (model_of_id id)) ≡ true
 rows_there olds news s id [] all h = cc
@@ -46,7 +46,7 @@ same_tests true b f g = sym (f refl)
 same_tests false true f g = g refl
 same_tests false false f g = refl
 
--- a record that has a row is one of a model
+-- A record that has a row belongs to a model.
 within_there : (id n : ℕ) (tables : List (List Row)) → length tables ≤ n → has_alternative id (rows_of tables n) ≡ true → ⊥
 within_there id n tables past h =
     let none : has_alternative id (rows_of tables n) ≡ false = ap (λ t. has_alternative id (rows_or_none t)) (slice_get_past tables n past) in

@@ -1,4 +1,4 @@
--- What an application that extends another one has as that one has it.
+-- What an application has in common with the one that it extends.
 use Rattle.std.proofs.Common.{◌≡◌, ◌∙◌, refl, ap, sym, arith, zero, suc, ℕ, ◌+◌, ◌<◌, ◌≤◌, ◌&&◌, nat_lt, cond, not, Bool, true, false, if◌then◌else◌, IsTrue, List, [], ◌∷◌, ◌++◌, length, drop, Option, Some, None, is_some}
 use Rattle.std.specs.Prelude.{unwrap_or}
 use Rattle.std.specs.List.{AllByRecursion, position_or_len}
@@ -30,7 +30,7 @@ same_flags true false h = cc
 same_flags false true h = cc
 same_flags false false h = refl
 
--- the parts of a model that the other one has
+-- The parts of a model that the other application has too.
 record Alike (e f : Entity) : Type 0 where
   name : e.name ≡ f.name
   nested : e.nested ≡ f.nested
@@ -65,7 +65,7 @@ more_models m [] news h = omega arith
 more_models m (e ∷ es) [] h = cc
 more_models m (e ∷ es) (f ∷ fs) h = let rest = more_models (m + 1) es fs (rest_like m e es f fs h) in omega (arith, rest)
 
--- the other application has a model at each place
+-- The other application has a model at each place.
 pub at_least : (olds news : List Entity) → models_lack 0 olds news ≡ None → length olds ≤ length news
 at_least olds news h = more_models 0 olds news h
 
@@ -84,7 +84,7 @@ fields_from k (e ∷ es) [] m h within = cc
 fields_from k (e ∷ es) (f ∷ fs) zero h within = (first_like k e es f fs h).fields
 fields_from k (e ∷ es) (f ∷ fs) (suc m) h within = fields_from (k + 1) es fs m (rest_like k e es f fs h) (omega (arith, within))
 
--- a model of the one has its place in the other
+-- A model of one application has its place in the other.
 abbrev place_in : List ℕ → List Entity → ℕ
 place_in name models = position_or_len (λ (m : Entity). same_text m.name name) models
 
@@ -121,7 +121,7 @@ place_same olds news name h is =
     let there : nat_lt k (length news) ≡ true = grind (nat_tests, arith, within, same, more) in
     some_of (nat_lt n (length olds)) (nat_lt k (length news)) n k (length olds) (length news) within there same
 
--- a kind of the one is that of the other
+-- A kind of one application is the same in the other.
 kind_same : (olds news : List Entity) (k l : KindName) → models_lack 0 olds news ≡ None → is_kind olds k ≡ true → same_kind k l ≡ true → kind_named news l ≡ kind_named olds k
 kind_same olds news kinds.Int kinds.Int h is same = refl
 kind_same olds news kinds.Int kinds.Text h is same = cc
@@ -142,7 +142,7 @@ kind_same olds news (kinds.Ref m) (kinds.Ref n) h is same =
     ap (λ name. kind.Ref (unwrap_or (model_place news name) (length news))) (sym (same_names m n same))
     ∙ ap (λ i. kind.Ref i) (sym (place_same olds news m h is))
 
--- the kinds of the fields that the one has, and then those of the added ones
+-- The kinds of the fields of one application, followed by those of the added fields.
 
 lack_if : (m n : ℕ) (f g : Field) (fs gs : List Field) (b : Bool) → same_field f g ≡ b → (if b then fields_lack m (n + 1) fs gs else Some (faults.Field m n)) ≡ None
     → (same_field f g ≡ true) × (fields_lack m (n + 1) fs gs ≡ None)
@@ -160,7 +160,7 @@ kinds_from olds news m n (f ∷ fs) (g ∷ gs) h known same =
     let rest : kinds_of_fields news gs ≡ kinds_of_fields olds fs ++ kinds_of_fields news (drop (length fs) gs) = kinds_from olds news m (n + 1) fs gs h known.1 parts.1 in
     λ i. one i ∷ rest i
 
--- the fields of a well application are of known kinds
+-- The fields of a well-formed application have known kinds.
 known_fields : (models : List Entity) (earlier fields : List Field) → are_fields models earlier fields ≡ true → AllByRecursion (λ (f : Field). is_kind models f.kind ≡ true) fields
 known_fields models earlier [] h = tt
 known_fields models earlier (f ∷ fields) h =

@@ -35,7 +35,7 @@ true_false : (b : Bool) → b ≡ true → b ≡ false → ⊥
 true_false true h k = cc
 true_false false h k = cc
 
--- another order names the same records
+-- Alterations in another order name the same records.
 pub changed_permuted : (id : ℕ) (xs ys : List Alteration) → IsPermutation xs ys → is_changed id xs ≡ true → is_changed id ys ≡ true
 changed_permuted id xs ys permuted h =
     true_unless (is_changed id ys) (λ none. true_false (is_changed id xs) h
@@ -69,7 +69,7 @@ all_step P id rows a rest more true same p all later = (all.0, later)
 all_step P id rows a rest more false true p all later = (p, all.1)
 all_step P id rows a rest more false false p all later = (p, all)
 
--- what holds of the alteration that is put and of the others holds of all
+-- A property of the alteration that is put and of the others holds for all.
 pub all_renamed : (P : Alteration → Type 0) (id : ℕ) (rows : List Row) (xs : List Alteration) → P (placed id rows) → AllByRecursion P xs → AllByRecursion P (with_alteration id rows xs)
 all_renamed P id rows [] p all = (p, tt)
 all_renamed P id rows (a ∷ rest) p all =
@@ -99,7 +99,7 @@ changed_kept k id rows [] h = cc
 changed_kept k id rows (a ∷ rest) h =
     kept_step k id rows a rest (with_alteration id rows rest) (nat_lt a.id id) (a.id == id) refl (λ later. changed_kept k id rows rest later) h
 
--- one alteration is put among those before
+-- One alteration is put among those before it.
 moved_if : (i k : ℕ) (b : Bool) (before after left : Bool) → (i == k) ≡ b → (b ≡ true → after ≡ true) → (before ≡ true → after ≡ true) → (before || (if b then true else left)) ≡ true → (after || left) ≡ true
 moved_if i k true before after left e here kept h = or_left after left (here refl)
 moved_if i k false true after left e here kept h = or_left after left (kept refl)

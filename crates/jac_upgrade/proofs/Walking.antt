@@ -21,7 +21,7 @@ all_mapped P Q (x ∷ xs) f a = (f x a.0, all_mapped P Q xs f a.1)
 pub same_id : (a : ℕ) → (a == a) ≡ true
 same_id a = grind arith
 
--- a record that is named in one of two lists
+-- A record that is named in one of two lists.
 or_if : (b x y : Bool) → (if b then true else (x || y)) ≡ ((if b then true else x) || y)
 or_if true x y = refl
 or_if false x y = refl
@@ -30,7 +30,7 @@ pub changed_append : (id : ℕ) (xs ys : List Alteration) → is_changed id (xs 
 changed_append id [] ys = refl
 changed_append id (a ∷ xs) ys = ap (λ (b : Bool). if a.id == id then true else b) (changed_append id xs ys) ∙ or_if (a.id == id) (is_changed id xs) (is_changed id ys)
 
--- the first row's record
+-- The record of the first row.
 starts_at : (id : ℕ) (rows : List Row) (r : Row) → slice_get rows 0 ≡ Some r → starts_with id rows ≡ true → r.id ≡ id
 starts_at id [] r is h = cc
 starts_at id (x ∷ rows) r is h = let same : x ≡ r = cc in ap (λ (y : Row). y.id) (sym same) ∙ eqb-true x.id id h
@@ -64,7 +64,7 @@ first_altered olds news m rows r a old new is one same renewed added =
       named = λ id fits h. (let here : a.id ≡ id = same ∙ starts_at id rows r is h in rw (here, same_id id) refl);
     }
 
--- the rows at the front that are of one record, and those after them
+-- The rows at the front that belong to one record, and the rows after them.
 record Front (id : ℕ) (rows : List Row) (k : ℕ) : Type 0 where
   own : alternatives id rows ≡ take k rows
   above : AllByRecursion (λ (x : Row). id < x.id) (drop k rows)
@@ -98,7 +98,7 @@ front_case id r rows false same least ordered rest =
     let all : AllByRecursion (λ (x : Row). id < x.id) (r ∷ rows) = (less, strictly id r rows less ordered.0) in
     record { own = none_above id (r ∷ rows) all; above = all; ordered = ordered; other = λ i h. refl; parted = λ i there apart. there }
 
--- at the front of rows that don't fall, from one id on
+-- The front of rows whose ids don't fall, from one id on.
 front : (id : ℕ) (rows : List Row) → AllByRecursion (λ (x : Row). id ≤ x.id) rows → AreOrdered rows → Front id rows (front_count id rows)
 front id [] least ordered = record { own = refl; above = tt; ordered = tt; other = λ i h. refl; parted = λ i there apart. there }
 front id (r ∷ rows) least ordered = front_case id r rows (r.id == id) refl least.0 ordered (front id rows least.1 ordered.1)
@@ -107,7 +107,7 @@ first_front : (r : Row) (rows : List Row) → AreOrdered (r ∷ rows) → Front 
 first_front r rows ordered =
     front_case r.id r rows true (same_id r.id) (omega arith) ordered (front r.id rows ordered.0 ordered.1)
 
--- a record that has a row among some of the rows has one among all
+-- A record that has a row among some of the rows has one among all.
 pub there_if : (b c : Bool) → c ≡ true → (if b then true else c) ≡ true
 there_if true c h = refl
 there_if false c h = h
@@ -117,7 +117,7 @@ there_dropped zero id rows h = h
 there_dropped (suc k) id [] h = h
 there_dropped (suc k) id (r ∷ rows) h = there_if (r.id == id) (has_alternative id rows) (there_dropped k id rows h)
 
--- a row of the record stands above a lesser id
+-- If the rows are above an id, so is each record that has a row among them.
 above_case : (id i k : ℕ) (b later : Bool) → (k == i) ≡ b → id < k → (later ≡ true → id < i) → (if b then true else later) ≡ true → id < i
 above_case id i k true later same less rest h = subst (λ j. id < j) (eqb-true k i same) less
 above_case id i k false later same less rest h = rest h
@@ -127,7 +127,7 @@ above_there id i [] all h = cc
 above_there id i (r ∷ rows) all h =
     above_case id i r.id (r.id == i) (has_alternative i rows) refl all.0 (λ later. above_there id i rows all.1 later) h
 
--- the records before the rows that are left are altered
+-- The records before the rows that are left are altered.
 pub record Walked (olds news : List Entity) (m : ℕ) (rows left : List Row) (start made : List Alteration) : Type 0 where
   pub more : List Alteration
   pub added : made ≡ start ++ more
@@ -154,7 +154,7 @@ or_false : (b : Bool) → (b || false) ≡ true → b ≡ true
 or_false true h = refl
 or_false false h = h
 
--- no row is left
+-- No row is left.
 pub walk_ends : (olds news : List Entity) (m : ℕ) (rows left : List Row) (start made : List Alteration) → left ≡ [] → Walked olds news m rows left start made → AltersRows olds news m rows start made
 walk_ends olds news m rows left start made none w = record {
   more = w.more;
@@ -198,7 +198,7 @@ named_step : (a b c d : Bool) → (a || b) ≡ true → (b ≡ true → (c || d)
 named_step true b c d h g = refl
 named_step false b c d h g = g h
 
--- the next record is altered
+-- The next record is altered.
 pub walk_goes : (olds news : List Entity) (m n : ℕ) (rows left : List Row) (start made new : List Alteration) → ((left ≡ []) → ⊥) → n ≡ first_count left
     → Walked olds news m rows left start made → AltersFirst olds news m (take n left) made new → Walked olds news m rows (drop n left) start new
 walk_goes olds news m n rows [] start made new some count w f = absurd (some refl)

@@ -32,13 +32,13 @@ same_kind (kinds.Ref model) k = is_reference_to model k
 abbrev pub same_field : Field → Field → Bool
 same_field f g = same_text f.name g.name && same_kind f.kind g.kind
 
--- the same fields, in the same order
+-- The same fields, in the same order.
 abbrev pub same_guards : List Assigned → List Assigned → Bool
 same_guards [] [] = true
 same_guards [] (b ∷ bs) = false
 same_guards (a ∷ rest) [] = false
 same_guards (a ∷ rest) (b ∷ bs) = same_text a.field b.field && same_guards rest bs
 
--- the groups guard the same fields, and both hide their records or neither does
+-- The groups guard the same fields, and both hide their records or neither does.
 abbrev pub same_group : FieldGroup → FieldGroup → Bool
 same_group g h = beq g.hides h.hides && same_guards g.guards h.guards

@@ -7,16 +7,16 @@ use Rattle.jac_rows.specs.declared.state.State.{State}
 use Rattle.jac_rows.specs.Tables.{rows_of}
 use Rattle.jac_keep.specs.declared.alteration.Alteration.{Alteration}
 
--- the record has a row among these
+-- The record has a row among these.
 abbrev pub has_alternative : ℕ → List Row → Bool
 has_alternative id [] = false
 has_alternative id (r ∷ rows) = if r.id == id then true else has_alternative id rows
 
--- the records that are named
+-- The ids of the records that are altered.
 abbrev pub changed_ids : List Alteration → List ℕ
 changed_ids changed = map (λ a. a.id) changed
 
--- the records of the state that have a row, each once, by rising id
+-- The ids of the records that have a row in the state, ascending and without duplicates.
 pub record AreIdsOf (s : State) (ids : List ℕ) : Type 0 where
   pub ascending : IsAscending ids
   pub each : (id : ℕ) → shown_by ids id ≡ has_alternative id (rows_of s.tables (model_of_id id))

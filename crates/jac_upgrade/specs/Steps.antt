@@ -15,36 +15,37 @@ use Rattle.jac_write.specs.Writes.{cells_at}
 use Rattle.jac_upgrade.specs.Changed.{has_alternative}
 use Rattle.jac_upgrade.specs.Upgraded.{draft_of, group_count, upgraded_cells}
 
--- a row with these cells, and the defaults of the fields that were added
+-- The row with its cells, followed by the defaults of the fields that were added.
 abbrev pub drafted_row : List Entity → List Entity → ℕ → Row → Row
 drafted_row olds news m r = record r { cells = draft_of olds news m r.cells }
 
--- the guard of each row can be met
+-- The guard of each row holds under some assignment.
 abbrev pub AreMet : List Row → Type 0
 AreMet rows = AllByRecursion (λ (r : Row). holds (guard_wants r.guard) r.guard ≡ true) rows
 
--- what an upgrade leaves of the cells of the alternatives of a record
+-- The cells of the rows of a record after an upgrade.
 abbrev pub upgraded_all : (ℕ → Bool) → List Entity → List Entity → ℕ → ℕ → List (List Value)
     → List (List Value)
 upgraded_all w olds news m id cells =
     if stays news w m id (group_count olds m) then map (upgraded_cells w olds news m id) cells
     else []
 
--- these alternatives of a record show what an upgrade leaves of those
+-- The new rows belong to the record, and their guards can hold. Under each assignment that shows at
+-- most one of the old rows, they show its cells after the upgrade.
 pub record IsRenewed (olds news : List Entity) (m id : ℕ) (old new : List Row) : Type 0 where
   pub of : AreOf id new
   pub met : AreMet new
   pub shown : (w : ℕ → Bool) → length (cells_at w old) ≤ 1 → cells_at w new ≡ upgraded_all w olds
       news m id (cells_at w old)
 
--- the alteration is one of a record of the model, from all alternatives that it has among these
+-- The alteration is that of a record of the model, from all rows that the record has in the list.
 pub record IsUpgradeIn (olds news : List Entity) (m : ℕ) (rows : List Row) (a : Alteration) : Type 0
   where
     pub one : is_id_of a.id m ≡ true
     pub there : has_alternative a.id rows ≡ true
     pub renewed : IsRenewed olds news m a.id (alternatives a.id rows) a.rows
 
--- the alteration has rows of its own record alone
+-- The alteration has only rows of its own record.
 abbrev pub IsOwnAlteration : Alteration → Type 0
 IsOwnAlteration a = AreOf a.id a.rows
 
@@ -52,12 +53,12 @@ abbrev pub is_changed : ℕ → List Alteration → Bool
 is_changed id [] = false
 is_changed id (a ∷ rest) = if a.id == id then true else is_changed id rest
 
--- the first row is one of the record
+-- The first row belongs to the record.
 abbrev pub starts_with : ℕ → List Row → Bool
 starts_with id [] = false
 starts_with id (r ∷ rows) = r.id == id
 
--- the record of the first row is altered, where its id is one of the model
+-- The record of the first row is altered if its id belongs to the model.
 pub record AltersFirst (olds news : List Entity) (m : ℕ) (rows : List Row)
     (old new : List Alteration) : Type 0 where
   pub more : List Alteration
@@ -68,7 +69,7 @@ pub record AltersFirst (olds news : List Entity) (m : ℕ) (rows : List Row)
   pub named : (id : ℕ) → is_id_of id m ≡ true → starts_with id rows ≡ true
       → is_changed id more ≡ true
 
--- how many rows at the front are of the record, and how many of the record of the first one
+-- The number of rows at the front that belong to the record, or to the record of the first row.
 abbrev pub front_count : ℕ → List Row → ℕ
 front_count id [] = 0
 front_count id (r ∷ rows) = if r.id == id then front_count id rows + 1 else 0
@@ -77,7 +78,8 @@ abbrev pub first_count : List Row → ℕ
 first_count [] = 0
 first_count (r ∷ rows) = front_count r.id rows + 1
 
--- each record of the model that has a row among these is altered, where they don't fall
+-- Each record of the model that has a row in the list is altered, if the ids of the rows don't
+-- fall.
 pub record AltersRows (olds news : List Entity) (m : ℕ) (rows : List Row)
     (old new : List Alteration) : Type 0 where
   pub more : List Alteration
@@ -87,12 +89,12 @@ pub record AltersRows (olds news : List Entity) (m : ℕ) (rows : List Row)
   pub named : AreOrdered rows → (id : ℕ) → is_id_of id m ≡ true → has_alternative id rows ≡ true
       → is_changed id more ≡ true
 
--- the alteration is one of a record of the state
+-- The alteration is that of a record of the state.
 pub record IsUpgradeOf (olds news : List Entity) (s : State) (a : Alteration) : Type 0 where
   pub within : model_of_id a.id < length olds
   pub upgrade : IsUpgradeIn olds news (model_of_id a.id) (rows_of s.tables (model_of_id a.id)) a
 
--- each record of the models below this one is altered
+-- Each record of the models below this one is altered.
 pub record AltersBelow (olds news : List Entity) (s : State) (m : ℕ) (made : List Alteration) : Type
     0 where
   pub each : AllByRecursion (IsUpgradeOf olds news s) made

@@ -8,17 +8,17 @@ use Rattle.jac_rows.specs.declared.plain.PlainState.{PlainState}
 use Rattle.jac_plain.specs.Records.{default_cells, plain_row, shielded_cells}
 use Rattle.jac_write.specs.Regrouped.{is_guarded_from, stays}
 
--- how many groups the model has, which are those that stand in front of the added ones
+-- The number of groups of the model. They come before the added ones.
 abbrev pub group_count : List Entity → ℕ → ℕ
 group_count models m = length (groups_at models m)
 
--- the cells, and then the defaults of the fields that were added
+-- The cells, followed by the defaults of the fields that were added.
 abbrev pub draft_of : List Entity → List Entity → ℕ → List Value → List Value
 draft_of olds news m cells = cells ++ default_cells news (drop (length (fields_at olds m))
     (fields_at news m))
 
--- where the label of an added group isn't shown, the fields that it guards have their public values
--- over the draft
+-- If the label of an added group isn't shown, the fields that it guards have their public values
+-- instead of those of the draft.
 abbrev pub upgraded_cells : (ℕ → Bool) → List Entity → List Entity → ℕ → ℕ → List Value → List Value
 upgraded_cells w olds news m id cells =
     shielded_cells news w m id (is_guarded_from news m (group_count olds m))
@@ -27,7 +27,7 @@ upgraded_cells w olds news m id cells =
 abbrev pub upgraded_row : (ℕ → Bool) → List Entity → List Entity → ℕ → PlainRow → PlainRow
 upgraded_row w olds news m r = plain_row r.id (upgraded_cells w olds news m r.id r.cells)
 
--- a record is left out where an added group hides it
+-- A record is left out if an added group hides it.
 abbrev pub upgraded_rows : (ℕ → Bool) → List Entity → List Entity → ℕ → List PlainRow
     → List PlainRow
 upgraded_rows w olds news m [] = []
@@ -36,7 +36,7 @@ upgraded_rows w olds news m (r ∷ rows) =
     then upgraded_row w olds news m r ∷ upgraded_rows w olds news m rows
     else upgraded_rows w olds news m rows
 
--- the tables of the models from this one on
+-- The tables of the models from this one on.
 abbrev pub upgraded_tables : (ℕ → Bool) → List Entity → List Entity → ℕ → List (List PlainRow)
     → List (List PlainRow)
 upgraded_tables w olds news m [] = []
@@ -47,7 +47,7 @@ abbrev pub empty_tables : ℕ → List (List PlainRow)
 empty_tables zero = []
 empty_tables (suc n) = [] ∷ empty_tables n
 
--- a model that was added has no records
+-- A model that was added has no records.
 abbrev pub upgraded_state : (ℕ → Bool) → List Entity → List Entity → PlainState → PlainState
 upgraded_state w olds news t = record {
   tables = upgraded_tables w olds news 0 t.tables ++ empty_tables (length news - length t.tables);

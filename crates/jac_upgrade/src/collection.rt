@@ -19,7 +19,7 @@ use jac_world::Steps;
 use std::alloc::Global;
 use std::sync::ledger::Ledger;
 
-// How many rows at the front are of the first one's record.
+// The number of rows at the front that belong to the first row's record.
 fn first_count(rows: &[Row]) -> usize
     ensures count { result ≡ first_count rows.now }
     ensures within { result ≤ length rows.now }
@@ -30,7 +30,7 @@ fn first_count(rows: &[Row]) -> usize
     }
 }
 
-// How many rows at the front are of the record.
+// The number of rows at the front that belong to the record.
 fn front_count(rows: &[Row], id: Id) -> usize
     ensures count { result ≡ front_count id rows.now }
     ensures within { result ≤ length rows.now }

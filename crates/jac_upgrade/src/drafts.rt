@@ -10,7 +10,7 @@ use jac_rows::Row;
 use jac_value::{Cells, Memory, Value, default_of};
 use std::alloc::Global;
 
-/// The rows of a model of the old application with the defaults of the fields that the new one
+/// The rows of a model of the old application, with the defaults of the fields that the new one
 /// adds.
 pub(crate) fn drafts(
     alloc: Global,

@@ -1,4 +1,4 @@
-//! The first part of an application that another one lacks, or has otherwise.
+//! The first part of an application that another one lacks or has changed.
 ghost use Rattle.std.specs.Prelude.{◌≡◌, ◌≤◌, length};
 ghost use Rattle.jac_lang.specs.Mirror.{application_of, entity_of, entities_of, groups_of};
 ghost use Rattle.jac_upgrade.specs.Extends.{upgrade_fault, models_lack, model_lack, fields_lack, groups_lack};
@@ -7,10 +7,10 @@ use crate::UpgradeFault;
 use crate::likeness::{same_field, same_group, same_model};
 use jac_lang::{App, Field, Group, ModelDef};
 
-/// Whether the new application extends the old one: whether its models, and in each of them the
-/// fields and the groups, begin with those of the old one. The fault is the first part of the old
-/// one that it lacks, or has otherwise: models in order, and in each its name, its fields and its
-/// groups.
+/// Whether the new application extends the old one: its models must begin with those of the old
+/// one, and in each of these so must its fields and its groups. The fault is the first part of the
+/// old application that the new one lacks or has changed. Models are compared in order, and in each
+/// model first its name, then its fields, then its groups.
 pub fn extends(old: &App, new: &App) -> Result<(), UpgradeFault>
     ensures { upgrade_fault result ≡ models_lack 0 (application_of old.now).models
         (application_of new.now).models }

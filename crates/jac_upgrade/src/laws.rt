@@ -9,8 +9,8 @@ pub fn extends_itself()
     ensures { (models : List Entity) → models_lack 0 models models ≡ None }
 {}
 
-/// A law: a state with a table for each model stays as it is where its application is upgraded to
-/// itself.
+/// A law: if an application is upgraded to itself, a state with a table for each model stays as it
+/// is.
 pub fn upgraded_to_itself()
     ensures { (w : ℕ → Bool) (models : List Entity) (t : PlainState)
         → length models ≤ length t.tables → upgraded_state w models models t ≡ t }

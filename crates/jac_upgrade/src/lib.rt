@@ -1,5 +1,4 @@
-//! Whether an application extends another one, and the change that brings the records of that one
-//! to it.
+//! Tests whether one application extends another, and makes the change that converts a store.
 #![tactic(auto)]
 
 mod collection;

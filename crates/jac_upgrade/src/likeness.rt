@@ -1,4 +1,4 @@
-//! Fields that are alike by name and kind, and groups that guard the same fields, or hide.
+//! Fields with the same name and kind, and groups that guard the same fields or hide records.
 ghost use Rattle.std.specs.Prelude.{◌≡◌, ◌&&◌};
 ghost use mathlib.Core.Bool.{beq};
 ghost use Rattle.jac_lang.specs.Lookup.{same_text};
@@ -7,7 +7,7 @@ ghost use Rattle.jac_upgrade.specs.Alike.{same_field, same_kind, same_group, sam
 
 use jac_lang::{Field, Group, KindName, ModelDef, Publics};
 
-/// Whether the models have one name, and both are nested or neither is.
+/// Whether the models have the same name, and both are nested or neither is.
 pub(crate) fn same_model(one: &ModelDef, other: &ModelDef) -> bool
     ensures { result ≡ (same_text one.now.name other.now.name && beq one.now.nested
         other.now.nested) }
@@ -15,7 +15,7 @@ pub(crate) fn same_model(one: &ModelDef, other: &ModelDef) -> bool
     one.name == other.name && one.nested == other.nested
 }
 
-/// Whether the fields have one name and one kind.
+/// Whether the fields have the same name and the same kind.
 pub(crate) fn same_field(one: &Field, other: &Field) -> bool
     ensures { result ≡ same_field one.now other.now }
 {

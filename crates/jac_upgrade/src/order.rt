@@ -9,7 +9,7 @@ use jac_keep::{Alteration, Alterations};
 use jac_value::Memory;
 use std::alloc::Global;
 
-/// The alterations by rising id. Where a record has two, one of them counts.
+/// The alterations by rising id. If a record has two, only one of them is kept.
 pub(crate) fn in_order(alloc: Global, made: Vec<Alteration>) -> Result<Alterations, Memory>
     requires { AllByRecursion IsOwnAlteration made.items }
     ensures apart { IfOk result AreApart }
@@ -30,8 +30,7 @@ fn sorted_by_id(made: Vec<Alteration>) -> Result<Vec<Alteration>, Memory>
     Ok(sorted)
 }
 
-// Names the record of each of the alterations, whatever their order; those that rise are put at the
-// end.
+// Puts all alterations into their order. Those that come in rising order are added at the end.
 fn put_all(alloc: Global, made: Vec<Alteration>) -> Result<Alterations, Memory>
     requires { AllByRecursion IsOwnAlteration made.items }
     ensures apart { IfOk result AreApart }

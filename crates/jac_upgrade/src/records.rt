@@ -1,4 +1,4 @@
-//! A record as an upgrade leaves it.
+//! A record after an upgrade.
 ghost use Rattle.std.specs.Prelude.{◌≡◌, ◌<◌, ◌≤◌, ℕ, Bool, true, length, All, IfOk, OnOk};
 ghost use Rattle.jac_lang.specs.Mirror.{application_of};
 ghost use Rattle.jac_rows.specs.declared.row.Row.{Row as Seen};
@@ -17,7 +17,7 @@ use jac_write::regrouped;
 use std::alloc::Global;
 use std::sync::ledger::Ledger;
 
-// The alternatives of a record, from all those that it has.
+// The rows of a record after an upgrade, from all rows that it has.
 fn alternatives<L: Ledger>(
     alloc: Global,
     old: &App,
@@ -42,7 +42,7 @@ fn alternatives<L: Ledger>(
     Ok(rows)
 }
 
-// The alteration of a record, from all alternatives that it has.
+// The alteration of a record, from all rows that it has.
 fn altered<L: Ledger>(
     alloc: Global,
     old: &App,
@@ -64,7 +64,7 @@ fn altered<L: Ledger>(
     Ok(Alteration { id, rows })
 }
 
-// Each guard can be met, as its pairs tell.
+// Reading the pairs of each guard shows that it holds under some assignment.
 fn read_guards(rows: &[Row])
     ensures { AreMet rows.now }
 {
@@ -73,8 +73,8 @@ fn read_guards(rows: &[Row])
     }
 }
 
-/// Adds the alteration of the record of which these are all alternatives. Nothing is added where
-/// its id is none of the model.
+/// Adds the alteration of the record that has exactly these rows. Adds nothing if its id doesn't
+/// belong to the model.
 pub(crate) fn add_record<L: Ledger>(
     alloc: Global,
     old: &App,

@@ -1,4 +1,4 @@
-//! The change that brings a state to another application.
+//! The change that upgrades a state to another application.
 ghost use Rattle.std.specs.Prelude.{◌≡◌, ◌≤◌, ℕ, Bool, None, length, IfOk, IsErrOf, IsTrue};
 ghost use Rattle.jac_check.specs.Well.{is_well};
 ghost use Rattle.jac_io.specs.Faults.{Rose};
@@ -47,8 +47,8 @@ fn all_changed<K: Keeper, L: Ledger>(
     Ok(changed)
 }
 
-/// The change after which the state is that of the new application: it names each record that has a
-/// row, and keeps the number. It is made from what the keeper has, which stays as it is.
+/// The change after which the state is that of the new application. It names each record that has a
+/// row, and keeps the number. It is made from the contents of the keeper, which don't change.
 pub fn upgrade<K: Keeper, L: Ledger>(
     alloc: Global,
     keeper: &mut K,

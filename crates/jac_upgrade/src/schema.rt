@@ -1,11 +1,11 @@
-//! How many models, fields and groups there are.
+//! The numbers of models, fields and groups.
 ghost use Rattle.std.specs.Prelude.{◌≡◌, ◌<◌, ◌≤◌, length, slice_get, Some};
 ghost use Rattle.jac_lang.specs.Lookup.{fields_at, groups_at};
 ghost use Rattle.jac_lang.specs.Mirror.{application_of, groups_of};
 
 use jac_lang::{App, Field, Group, ModelDef};
 
-/// How many models the application has.
+/// The number of models of the application.
 pub(crate) fn model_count(app: &App) -> u8
     ensures count { result ≡ length app.now.models }
     ensures few { result ≤ 64 }
@@ -13,7 +13,7 @@ pub(crate) fn model_count(app: &App) -> u8
     app.models.as_slice().len() as u8
 }
 
-/// How many fields the model has.
+/// The number of fields of the model.
 pub(crate) fn field_count(app: &App, model: u8) -> u8
     requires { model < length app.now.models }
     ensures { result ≡ length (fields_at (application_of app.now).models model) }
@@ -21,7 +21,7 @@ pub(crate) fn field_count(app: &App, model: u8) -> u8
     fields_of(app, model).len() as u8
 }
 
-/// How many groups the model has.
+/// The number of groups of the model.
 pub(crate) fn group_count(app: &App, model: u8) -> u8
     requires { model < length app.now.models }
     ensures { result ≡ length (groups_at (application_of app.now).models model) }
