@@ -6,7 +6,7 @@ use Rattle.std.specs.Str.{IsAscii}
 use Rattle.std.proofs.lemmas.Bool.{and_parts}
 use Rattle.std.proofs.lemmas.Bool.Decides.{nat_tests}
 
--- bytes that all pass a test which only ASCII passes
+-- Each byte is ASCII if all of them pass a test that only ASCII passes.
 pub ascii_at : (p : ℕ → Bool) → ((c : ℕ) → p c ≡ true → c < 128) → (bytes : List ℕ) → list_all p bytes ≡ true → (i : ℕ)
     → slice_index bytes i < 128
 ascii_at p small [] h i = omega arith

@@ -1,4 +1,4 @@
--- What std's `parse` reads, and what a parameter reads as.
+-- How std's `parse` reads a text, and how the text of a parameter is read.
 use Rattle.std.proofs.Common.{◌≡◌, ℕ, ◌<◌, ◌≤◌, ◌^◌, ◌/◌, Bool, true, false, ◌&&◌, nat_lt, nat_le, List, [], ◌∷◌, length, drop, refl, sym, ◌∙◌, ap, subst, arith, Option, Some, None, if◌then◌else◌, ℤ, pos, neg_ℤ}
 use Rattle.std.proofs.lemmas.Grind.{common_steps}
 use Rattle.std.proofs.lemmas.Int.{ints}
@@ -37,7 +37,7 @@ numeral-from_test ds h =
     let parts : (list_all (λ d. is_digit d 10) ds ≡ true) × (nat_lt 0 (length ds) ≡ true) = both-parts _ _ h in
     (grind arith, all_digits-from_test ds parts.0)
 
--- a text that begins with a plus is no numeral
+-- A text that begins with `+` is no numeral.
 pub plus-no_numeral : (bs : List ℕ) → starts_with_plus bs ≡ true → is_numeral bs ≡ false
 plus-no_numeral [] h = refl
 plus-no_numeral (c ∷ cs) h = let e : c ≡ 43 = grind arith in rw e refl

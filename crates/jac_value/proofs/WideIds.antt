@@ -1,4 +1,4 @@
--- Wide ids: two ids, one before the other.
+-- Wide ids. A wide id consists of two narrow ids.
 use Rattle.std.proofs.Common.{◌≡◌, ◌⊎◌, inl, inr, ℕ, ◌/◌, ◌%◌, ◌^◌, ◌<◌, ◌≤◌, ◌==◌, Bool, ◌&&◌, ◌||◌, true, false, nat_lt, refl, sym, ◌∙◌, ap, arith}
 use Rattle.std.proofs.lemmas.Nat.{div-mul-add, mod-mul-add}
 use Rattle.std.proofs.lemmas.Bool.Decides.{nat_tests}
@@ -51,7 +51,7 @@ either : (a b : Bool) → (a || b) ≡ true → (a ≡ true) ⊎ (b ≡ true)
 either true b e = inl refl
 either false b e = inr e
 
--- an id of a model is narrow, or its two parts are
+-- An id of a model is narrow, or each of its two parts is narrow.
 parts : (id m : ℕ) → is_id_of id m ≡ true → IsNarrow id ⊎ (IsNarrow (id / 0x10_0000_0000_0000) × IsNarrow (id % 0x10_0000_0000_0000))
 parts id m is =
     elim (either (is_narrow id) (is_wide id) (both (is_narrow id || is_wide id) (id % 64 == m) is).0) [

@@ -4,7 +4,7 @@ use Rattle.jac_value.specs.declared.value.Value.{Value}
 use Rattle.jac_value.specs.declared.cells.CellList.{CellList}
 use Rattle.jac_value.specs.declared.cells.CellList.TheVariants as list
 
--- the values, whether they are a list's own or those that copies share
+-- The values of the list, whether it owns them or shares them with copies.
 abbrev pub listed_cells : CellList → List Value
 listed_cells (list.Own own) = own.items
 listed_cells (list.Shared shared) = shared.value.items

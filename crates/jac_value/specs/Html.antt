@@ -2,7 +2,7 @@
 use Rattle.std.specs.Prelude.{ℕ, ◌==◌, if◌then◌else◌, List, [], ◌∷◌, codes}
 use Rattle.std.specs.List.{flat_map}
 
--- the five characters that HTML gives a meaning, and every other byte as it is
+-- The five characters with a meaning in HTML are escaped. Every other byte stays as it is.
 abbrev pub html_byte : ℕ → List ℕ
 html_byte b =
     if b == 38 then codes "&amp;" else

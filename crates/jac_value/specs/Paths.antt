@@ -8,43 +8,43 @@ abbrev pub is_nil : List ℕ → Bool
 is_nil [] = true
 is_nil (b ∷ bs) = false
 
--- a letter, a digit, `-`, `_`, `.` or `~` (RFC 3986, unreserved characters)
+-- A letter, a digit, `-`, `_`, `.` or `~`: an unreserved character (RFC 3986, section 2.3).
 abbrev pub is_unreserved : ℕ → Bool
 is_unreserved c = is_ascii_alphanumeric c || c == 45 || c == 95 || c == 46 || c == 126
 
 abbrev pub is_fixed_segment : List ℕ → Bool
 is_fixed_segment part = not (is_nil part) && list_all is_unreserved part
 
--- the bytes are in braces
+-- The bytes are in braces.
 abbrev pub is_braced : List ℕ → Bool
 is_braced part = nat_le 2 (length part) && slice_index part 0 == 123 && slice_index part
     (length part - 1) == 125
 
--- the bytes without the first and the last
+-- The bytes without the first and the last.
 abbrev pub inner : List ℕ → List ℕ
 inner part = slice_range part 1 (length part - 1)
 
--- `{NAME}`
+-- `{NAME}`.
 abbrev pub is_named_segment : List ℕ → Bool
 is_named_segment part = is_braced part && is_name (inner part)
 
 abbrev pub is_segment : List ℕ → Bool
 is_segment part = is_fixed_segment part || is_named_segment part
 
--- the name in a segment, where it has one
+-- The name in the segment, if it has one.
 abbrev pub segment_name : List ℕ → Option (List ℕ)
 segment_name part = if is_named_segment part then Some (inner part) else None
 
--- what stands between the slashes of a path; nothing in `/` alone
+-- The parts of a path between its slashes. The path `/` has none.
 abbrev pub segments : List ℕ → List (List ℕ)
 segments path = if nat_lt 1 (length path) then slice_split (λ b. b == 47) (drop 1 path) else []
 
--- the names in segments, in order
+-- The names in the segments, in their order.
 abbrev pub names_in : List (List ℕ) → List (List ℕ)
 names_in [] = []
 names_in (part ∷ parts) = if is_named_segment part then inner part ∷ names_in parts
     else names_in parts
 
--- `/` alone, or one or more segments, each after a `/`
+-- `/` alone, or one or more segments, each after a `/`.
 abbrev pub is_path : List ℕ → Bool
 is_path path = slice_index path 0 == 47 && list_all is_segment (segments path)

@@ -12,14 +12,15 @@ use Rattle.jac_value.specs.declared.value.Kind.TheVariants as kind
 use Rattle.jac_value.specs.declared.value.Value.{Value}
 use Rattle.jac_value.specs.declared.value.Value.TheVariants as value
 
--- what a value of the kind is where nothing says otherwise
+-- The value of a field of this kind if nothing else is given.
 abbrev pub default_value : Kind → Value
 default_value kind.Int = value.Int (pos 0)
 default_value kind.Text = value.Text []
 default_value kind.Bool = value.Bool false
 default_value (kind.Ref m) = value.Ref None
 
--- the value has the kind; a reference has that of its model, and none has that of each
+-- The value has the kind. A reference to a record has the kind of the record's model. An empty
+-- reference has the kind of each model.
 abbrev pub has_kind : Kind → Value → Bool
 has_kind kind.Int (value.Int i) = true
 has_kind kind.Text (value.Text t) = true
@@ -28,7 +29,7 @@ has_kind (kind.Ref m) (value.Ref None) = true
 has_kind (kind.Ref m) (value.Ref (Some id)) = is_id_of id m
 has_kind k v = false
 
--- how a page shows the value
+-- How a page shows the value.
 abbrev pub value_text : Value → List ℕ
 value_text (value.Int i) = signed_decimal i
 value_text (value.Text t) = t
@@ -37,19 +38,19 @@ value_text (value.Bool false) = codes "false"
 value_text (value.Ref None) = []
 value_text (value.Ref (Some id)) = decimal id
 
--- it begins with `+`, as no parameter that reads as a number does
+-- The text begins with `+`. No such text is read as a number.
 abbrev pub starts_with_plus : List ℕ → Bool
 starts_with_plus bs = slice_index bs 0 == 43
 
--- decimal digits alone, and at least one
+-- Decimal digits alone, and at least one.
 abbrev pub is_numeral : List ℕ → Bool
 is_numeral ds = list_all (λ c. is_digit c 10) ds && nat_lt 0 (length ds)
 
--- the digits are a number up to `most`
+-- Decimal digits, at least one, with a number up to `most`.
 abbrev pub is_number_to : ℕ → List ℕ → Bool
 is_number_to most ds = is_numeral ds && nat_le (digits_value 10 ds) most
 
--- an optional minus and digits that are a number of 64 bits
+-- The signed integer of 64 bits that an optional minus and digits write.
 abbrev pub integer_of : List ℕ → Option ℤ
 integer_of bs =
     if slice_index bs 0 == 45
@@ -57,21 +58,21 @@ integer_of bs =
     then Some (neg_ℤ (pos (digits_value 10 (drop 1 bs)))) else None)
     else (if is_number_to 0x7FFF_FFFF_FFFF_FFFF bs then Some (pos (digits_value 10 bs)) else None)
 
--- an integer; else 0
+-- The integer that the text writes, or else 0.
 abbrev pub int_read : List ℕ → ℤ
 int_read bs = unwrap_or (integer_of bs) (pos 0)
 
--- three words are true
+-- `1`, `true` and `on` are true. Every other text is false.
 abbrev pub bool_read : List ℕ → Bool
 bool_read bs = pointwise ◌==◌ bs (codes "1") || pointwise ◌==◌ bs (codes "true") || pointwise ◌==◌
     bs (codes "on")
 
--- digits that are an id of the model; else none
+-- The id that the digits write, if it is an id of the model, or else none.
 abbrev pub ref_read : ℕ → List ℕ → Option ℕ
 ref_read m bs = if is_numeral bs && is_id_of (digits_value 10 bs) m then Some (digits_value 10 bs)
     else None
 
--- what the text of a parameter reads as
+-- The value that the text of a parameter is read as.
 abbrev pub value_read : Kind → List ℕ → Value
 value_read kind.Int bs = value.Int (int_read bs)
 value_read kind.Text bs = value.Text bs

@@ -7,19 +7,19 @@ use Rattle.std.specs.Str.{bytes_eq}
 use Rattle.std.specs.Str.Parse.{digits_value}
 use Rattle.jac_value.specs.Names.{is_atom_byte}
 
--- 1 to 128 ASCII letters, digits, `-` and `_`
+-- 1 to 128 ASCII letters, digits, `-` and `_`.
 abbrev pub is_session_token : List ℕ → Bool
 is_session_token word = nat_lt 0 (length word) && nat_le (length word) 128
     && list_all is_atom_byte word
 
--- a number below the limit, of 1 to `most` decimal digits
+-- The number that 1 to `most` decimal digits write, if it is below the limit.
 abbrev pub number_below : ℕ → ℕ → List ℕ → Option ℕ
 number_below most limit word =
     if nat_lt 0 (length word) && nat_le (length word) most && list_all is_ascii_digit word && nat_lt
     (digits_value 10 word) limit
     then Some (digits_value 10 word) else None
 
--- a viewer's number, or `-` for nobody
+-- A viewer's number, or `-` for nobody.
 abbrev pub viewer_read : List ℕ → Option (Option ℕ)
 viewer_read word = if bytes_eq word (codes "-") then Some None
     else option_map (λ n. Some n) (number_below 39 (2 ^ 128) word)

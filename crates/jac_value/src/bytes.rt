@@ -4,7 +4,7 @@ use crate::Memory;
 use std::alloc::Global;
 use std::marker::Model;
 
-/// Bytes, as a file or a request body has them.
+/// Bytes that need not be UTF-8, as in a file or a request body.
 #[derive(Debug, Drop)]
 pub struct Bytes {
     bytes: Vec<u8>,

@@ -12,14 +12,14 @@ pub struct Cells {
     values: CellList,
 }
 
-// The values of one list, or those that copies of a list share.
+// The values that one list owns, or those that copies of a list share.
 #[derive(Debug)]
 enum CellList {
     Own(Vec<Value>),
     Shared(Rc<Vec<Value>>),
 }
 
-// One step for whoever lets cells go, whichever list they are.
+// A drop is one step, whichever variant is dropped.
 impl Drop for CellList {
     fn drop(self) {
         match self {
@@ -63,14 +63,14 @@ impl Cells {
         }
     }
 
-    /// The values in a list of their own.
+    /// A list of copies of the values.
     pub fn to_vec(&self, alloc: Global) -> Result<Vec<Value>, Memory>
         ensures { IfOk result (λ v. v.items ≡ self.now) }
     {
         try_clone_all(alloc, self.as_slice())
     }
 
-    /// The same values. Those of a copy aren't copied once more.
+    /// The same values. If these cells are a copy themselves, no value is copied.
     pub fn copy(&self, alloc: Global) -> Result<Cells, Memory>
         ensures { IfOk result (λ c. c ≡ self.now) }
     {

@@ -12,7 +12,7 @@ pub fn are_digits(word: &[u8]) -> bool
     word.iter().all(|byte| byte.is_ascii_digit())
 }
 
-/// The number that decimal digits write, where it is below 2^128.
+/// The number that decimal digits write, if it is below 2^128.
 pub fn decimal(word: &[u8]) -> Option<u128>
     requires some { 0 < length word.now }
     requires digits { list_all is_ascii_digit word.now ≡ true }

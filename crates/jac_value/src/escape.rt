@@ -5,8 +5,8 @@ ghost use Rattle.jac_value.specs.Quoted.{quoted_bytes, escaped_byte, hex_escape,
 use crate::{Memory, Txt};
 use std::alloc::Global;
 
-/// The bytes in quotes, as a line of output has them: LF, CR, backslash and quote have their short
-/// escapes, and every other byte below 0x20 or above 0x7E is `\xHH` in lower case.
+/// The bytes in quotes, escaped for a line of output. LF, CR, backslash and quote have short
+/// escapes. Every other byte below 0x20 or above 0x7E is `\xHH`, in lower case.
 pub fn escape_line(alloc: Global, bytes: &[u8]) -> Result<Txt, Memory>
     ensures { IfOk result (λ t. t ≡ quoted_bytes bytes.now) }
 {

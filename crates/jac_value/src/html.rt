@@ -4,8 +4,8 @@ ghost use Rattle.jac_value.specs.Html.{html_byte, html};
 use crate::{Bytes, Memory};
 use std::alloc::Global;
 
-/// The text as HTML shows it: `&`, `<`, `>` and the quotes `"` and `'` have their escapes, and
-/// every other byte stays.
+/// The text, escaped for HTML: `&`, `<`, `>` and the quotes `"` and `'` are escaped, and every
+/// other byte stays as it is.
 pub fn escape_html(alloc: Global, text: &[u8]) -> Result<Bytes, Memory>
     ensures { IfOk result (λ b. b ≡ html text.now) }
 {
@@ -14,7 +14,7 @@ pub fn escape_html(alloc: Global, text: &[u8]) -> Result<Bytes, Memory>
     Ok(Bytes::from_vec(escaped))
 }
 
-/// Adds the text, as HTML shows it, to the bytes of a page.
+/// Appends the text, escaped for HTML, to the bytes of a page.
 pub fn add_html(page: &mut Vec<u8>, text: &[u8]) -> Result<(), Memory>
     ensures { OnOk result (page.new.items ≡ page.old.items ++ html text.now) }
 {

@@ -5,9 +5,10 @@ use crate::{List, Memory, TryClone};
 use std::alloc::Global;
 use std::marker::Model;
 
-/// The number of a record. Its remainder by 64 is its model. A narrow id is less than 2^52, and its
-/// quotient by 4096 is the number of the request that made it; a wide one is two narrow ids, the
-/// record of the loop that it was made in before the one that it would have had outside.
+/// The number of a record. Its remainder by 64 is the record's model. A narrow id is from 4096 to
+/// 2^52 - 1, and its quotient by 4096 is the number of the request that made the record. A wide id,
+/// of a record made in a loop, consists of two narrow ids: that of the loop's record times 2^52,
+/// plus the id that the new record would have outside of the loop.
 #[derive(Clone, Copy, Debug, PartialEq, Eq, PartialOrd, Ord)]
 pub struct Id(pub u128);
 
@@ -34,8 +35,7 @@ const FIRST_ID: u128 = 4096;
 
 const IDS_END: u128 = 1 << 52;
 
-/// The id that the creating statement at the place `site` of its view gives in the request
-/// `number`.
+/// The id of the record that the statement at place `site` of its view creates in request `number`.
 pub fn id_of(number: u64, site: u8, model: u8) -> Id
     requires counted { 0 < number }
     requires in_range { number < 2 ^ 40 }
@@ -46,7 +46,7 @@ pub fn id_of(number: u64, site: u8, model: u8) -> Id
     Id((u128::from(number) * 64 + u128::from(site)) * 64 + u128::from(model))
 }
 
-/// The label that guards a group of fields of the record.
+/// The label that guards the given group of the record's fields.
 pub fn label_number(id: Id, group: u8) -> u128
     requires a_group { group < 8 }
     requires in_range { id < 2 ^ 124 }
@@ -62,8 +62,8 @@ pub fn id_model(id: Id) -> u8
     (id.0 % 64) as u8
 }
 
-/// The id of a record that is made in a loop: the loop's record, and the id that it would have
-/// outside.
+/// The id of a record that is made in a loop. `around` is the loop's record, and `base` the id that
+/// the new record would have outside of the loop.
 pub fn loop_id_of(around: Id, base: Id) -> Id
     requires narrow_around { is_narrow around ≡ true }
     requires narrow_base { is_narrow base ≡ true }
@@ -72,8 +72,8 @@ pub fn loop_id_of(around: Id, base: Id) -> Id
     Id(around.0 * IDS_END + base.0)
 }
 
-/// Whether the number is an id of the model: from 4096 to 2^52 - 1, or two such numbers, one before
-/// the other, with the model as its remainder by 64.
+/// Whether the number is an id of the model: its remainder by 64 is the model, and it is narrow
+/// (from 4096 to 2^52 - 1) or consists of two such numbers, the first times 2^52.
 pub fn is_id(number: u128, model: u8) -> bool
     ensures { result ≡ is_id_of number model }
 {

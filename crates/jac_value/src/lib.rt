@@ -1,4 +1,4 @@
-//! Texts, bytes, ids, kinds and values, and want of memory.
+//! Texts, bytes, lists, ids, kinds and values, and the error for out-of-memory.
 #![tactic(auto)]
 
 mod bytes;

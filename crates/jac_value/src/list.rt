@@ -4,13 +4,13 @@ use crate::Memory;
 use std::alloc::Global;
 use std::marker::Model;
 
-/// What can be copied, where memory may be wanting.
+/// A type with values that can be copied, unless the copy runs out of memory.
 pub trait TryClone: Drop {
     fn try_clone(&self, alloc: Global) -> Result<Self, Memory>
         ensures { IfOk result (λ v. v ≡ self.now) };
 }
 
-/// Items in their order. To contracts it is the list of what they are, and not where they lie.
+/// Items in their order. To contracts, a list is the sequence of its items' values.
 #[derive(Debug, Drop)]
 pub struct List<T> {
     items: Vec<T>,
@@ -56,7 +56,7 @@ impl<T: Drop> List<T> {
 }
 
 impl<T: TryClone> List<T> {
-    /// A list of copies.
+    /// A list of copies of the items.
     pub fn from_slice(alloc: Global, items: &[T]) -> Result<List<T>, Memory>
         ensures { IfOk result (λ l. l ≡ items.now) }
     {

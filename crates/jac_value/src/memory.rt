@@ -1,6 +1,6 @@
 use std::alloc::{AllocError, AllocFailed};
 
-/// A growth was refused. It is the one answer that no contract ties to a cause.
+/// Out of memory. It is the only error that no contract ties to a cause.
 #[derive(Clone, Copy, Debug, PartialEq, Eq)]
 pub struct Memory;
 

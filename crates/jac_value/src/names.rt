@@ -3,8 +3,8 @@ ghost use Rattle.std.specs.Char.{is_ascii_alphabetic};
 ghost use Rattle.std.specs.List.{list_all};
 ghost use Rattle.jac_value.specs.Names.{is_atom_byte, is_reserved, is_name};
 
-/// Whether the bytes are a name: an atom of up to 64 bytes that begins with a letter, and none of
-/// the reserved words `this`, `viewer`, `true` and `false`.
+/// Whether the bytes are a name: up to 64 letters, digits, `_` and `-`, beginning with a letter,
+/// and none of the reserved words `this`, `viewer`, `true` and `false`.
 pub fn is_name(word: &[u8]) -> bool
     ensures { result ≡ is_name word.now }
 {
@@ -29,7 +29,7 @@ fn is_reserved(word: &[u8]) -> bool
         || word == b"false".as_slice()
 }
 
-/// Whether each byte is an ASCII letter or digit, `_` or `-`. No bytes are these.
+/// Whether each byte is an ASCII letter or digit, `_` or `-`. It is true if there are no bytes.
 pub fn are_atom_bytes(word: &[u8]) -> bool
     ensures { result ≡ list_all is_atom_byte word.now }
 {

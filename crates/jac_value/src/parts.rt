@@ -2,7 +2,8 @@ ghost use Rattle.std.specs.Prelude.{◌≡◌, ◌==◌, ◌<◌, ◌∷◌, IfS
 ghost use Rattle.std.specs.List.{slice_split};
 ghost use Rattle.jac_value.specs.Parts.{parts_left, option_now};
 
-/// The first of the parts that a byte separates, and what follows that byte, where there is one.
+/// The bytes before the first separator, and the bytes after it. If there is no separator, all
+/// bytes and `None`.
 pub fn first_part(bytes: &[u8], separator: u8) -> (&[u8], Option<&[u8]>)
     ensures parts { slice_split (λ b. b == separator) bytes.now ≡ result.0.now ∷ parts_left
         separator (option_now result.1) }

@@ -13,8 +13,8 @@ pub fn is_path(path: &[u8]) -> bool
     begins_with_slash(path) && are_segments(path)
 }
 
-/// What stands after the first byte of a path, where that is its segments: `first_part` at `/`
-/// gives them one by one. The path `/` has none.
+/// The bytes after the first `/` of a path: its segments, separated by `/`. `first_part` gives them
+/// one by one. The path `/` has none.
 pub fn segments_of(path: &[u8]) -> Option<&[u8]>
     ensures { parts_left 47 (option_now result) ≡ segments path.now }
 {
@@ -25,7 +25,7 @@ pub fn segments_of(path: &[u8]) -> Option<&[u8]>
     }
 }
 
-/// The name that a segment has in braces.
+/// The name in a segment of the form `{NAME}`.
 pub fn segment_name(part: &[u8]) -> Option<&[u8]>
     ensures { option_now result ≡ segment_name part.now }
 {

@@ -4,9 +4,9 @@ ghost use Rattle.jac_value.specs.Values.{starts_with_plus, value_read, integer_o
 
 use crate::{Id, Kind, Txt, Value, is_id};
 
-/// What a parameter's text reads as, and the default of the kind where it doesn't read. An int is
-/// an optional `-` and digits, a bool is true for `1`, `true` and `on`, and a reference is the
-/// digits of an id of its model.
+/// The value that a parameter's text is read as, or the kind's default if it can't be read. An int
+/// is an optional `-` and digits. `1`, `true` and `on` are the bool true. A reference is the digits
+/// of an id of its model.
 pub fn value_of(kind: &Kind, text: &Txt) -> Value
     requires { kind.now ≢ Kind.Text }
     ensures { result ≡ value_read kind.now text.now }
@@ -19,7 +19,7 @@ pub fn value_of(kind: &Kind, text: &Txt) -> Value
     }
 }
 
-/// An optional minus and digits that are a number of 64 bits.
+/// The integer that an optional `-` and digits write, if it fits into 64 bits.
 pub fn integer_of(text: &Txt) -> Option<i64>
     ensures { result ≡ integer_of text.now }
 {

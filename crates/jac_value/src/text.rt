@@ -13,7 +13,7 @@ use std::alloc::Global;
 use std::cmp::Ordering;
 use std::marker::Model;
 
-// How many bytes are compared one by one.
+// Up to this many bytes are compared one by one.
 const FEW: usize = 16;
 
 /// Text in UTF-8 (RFC 3629), ordered by its bytes.
@@ -22,10 +22,10 @@ pub struct Txt {
     text: String,
 }
 
-/// Why bytes gave no text.
+/// Why no text was made of bytes.
 #[derive(Clone, Copy, Debug, PartialEq, Eq)]
 pub enum TxtFault {
-    /// The bytes aren't UTF-8; their longest prefix that is UTF-8 has this length.
+    /// The bytes aren't UTF-8. Their longest prefix that is UTF-8 has this length.
     NotUtf8(u64),
     Memory,
 }
@@ -86,7 +86,7 @@ impl Txt {
         Ok(Txt { text })
     }
 
-    /// The text that the bytes are.
+    /// The bytes as a text, if they are UTF-8.
     pub fn from_bytes(alloc: Global, bytes: &[u8]) -> Result<Txt, TxtFault>
         ensures text { IfOk result (λ t. (t ≡ bytes.now) × IsUtf8 bytes.now) }
         ensures not_utf8 { (at : ℕ) → IsErrOf result (TxtFault.NotUtf8 at) → (¬ (IsUtf8 bytes.now))
@@ -141,8 +141,8 @@ impl Ord for Txt {
     }
 }
 
-// Whether the bytes are the same. Few bytes are compared one by one, which takes less time than a
-// comparison of slices.
+// Whether the bytes are the same. Up to `FEW` bytes are compared one by one, which takes less time
+// than a comparison of slices.
 fn same_bytes(one: &[u8], other: &[u8]) -> bool
     ensures { result ≡ pointwise ◌==◌ one.now other.now }
 {

@@ -4,7 +4,7 @@ ghost use Rattle.jac_value.specs.Values.{default_value, value_text};
 use crate::{Id, List, Memory, TryClone, Txt};
 use std::alloc::Global;
 
-/// What a field or a parameter holds. A reference names its model by its place in the application.
+/// The kind of a field or a parameter. `Ref` has the place of the model in the application.
 #[derive(Clone, Copy, Debug, PartialEq, Eq)]
 pub enum Kind {
     Int,
@@ -13,7 +13,7 @@ pub enum Kind {
     Ref(u8),
 }
 
-/// The kinds of the fields of a model, in the order of the text.
+/// The kinds of a model's fields, in the order of the program's text.
 pub type Kinds = List<Kind>;
 
 impl TryClone for Kind {
@@ -22,8 +22,8 @@ impl TryClone for Kind {
     }
 }
 
-/// A value of a field. Ints are ordered by number and texts by bytes; false comes before true, and
-/// none before every id.
+/// A value of a field or a parameter. Ints are ordered by number and texts by bytes. False comes
+/// before true, and the empty reference before every id.
 #[derive(Debug, Drop, PartialEq, Eq, PartialOrd, Ord)]
 pub enum Value {
     Int(i64),
@@ -55,7 +55,7 @@ impl TryClone for Value {
     }
 }
 
-/// 0, empty text, false or none.
+/// The default of the kind: 0, the empty text, false or the empty reference.
 pub fn default_of(alloc: Global, kind: &Kind) -> Value
     ensures { result ≡ default_value kind.now }
 {
@@ -67,8 +67,8 @@ pub fn default_of(alloc: Global, kind: &Kind) -> Value
     }
 }
 
-/// How a page shows the value: the decimal number, the text itself, `true` or `false`, the decimal
-/// id, or nothing for no reference.
+/// The value as a page shows it: the decimal number, the text itself, `true` or `false`, the
+/// decimal id, or nothing for an empty reference.
 pub fn text_of(alloc: Global, value: &Value) -> Result<Txt, Memory>
     ensures { IfOk result (λ t. t ≡ value_text value.now) }
 {

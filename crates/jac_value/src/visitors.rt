@@ -10,7 +10,7 @@ pub fn is_session_token(word: &[u8]) -> bool
     !word.is_empty() && word.len() <= 128 && are_atom_bytes(word)
 }
 
-/// The number that 1 to `most` decimal digits write, where it is below 2^128.
+/// The number that 1 to `most` decimal digits write, if it is below 2^128.
 pub fn number_of_digits(word: &[u8], most: usize) -> Option<u128>
     ensures { result ≡ number_below most (2 ^ 128) word.now }
 {
@@ -21,7 +21,8 @@ pub fn number_of_digits(word: &[u8], most: usize) -> Option<u128>
     }
 }
 
-/// A viewer's number, or `-` for nobody: 1 to 39 decimal digits whose number is below 2^128.
+/// The viewer that the bytes write: `-` for nobody, or a number below 2^128 in 1 to 39 decimal
+/// digits.
 pub fn read_viewer(word: &[u8]) -> Option<Option<u128>>
     ensures { result ≡ viewer_read word.now }
 {

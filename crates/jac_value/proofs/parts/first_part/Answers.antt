@@ -7,7 +7,7 @@ use Rattle.std.proofs.lemmas.Bool.Decides.{nat_tests}
 use Rattle.std.proofs.lemmas.List.{take_all, length-drop}
 use Rattle.jac_value.proofs.parts.first_part.Goals as goal
 
--- where no element passes, the list is one part
+-- If no element passes the test, the list is one part.
 whole : (p : ℕ → Bool) (xs : List ℕ) → prefix_len (λ x. not (p x)) xs ≡ length xs → slice_split p xs ≡ xs ∷ []
 whole p [] h = refl
 whole p (x ∷ xs) h =
