@@ -1,4 +1,4 @@
--- What is among entries of which one was taken out, put in or invalidated.
+-- Which entries are left after one is taken out, put in or invalidated.
 use Rattle.std.proofs.Common.{◌≡◌, ◌∙◌, sym, ap, subst, refl, zero, suc, ℕ, ◌<◌, ◌==◌, Bool, true, false, ◌⊎◌, inl, inr, Option, Some, None, List, [], ◌∷◌, ◌++◌, length, take, drop, arith, slice_index_or}
 use Rattle.std.specs.List.{position}
 use Rattle.std.proofs.lemmas.List.Quantifiers.{position-Some}
@@ -14,7 +14,7 @@ same_viewer None (Some other) h = grind (arith, h)
 same_viewer (Some one) None h = grind (arith, h)
 same_viewer (Some one) (Some other) h = ap Some (grind (arith, h))
 
--- what is left where one was taken out was there
+-- An entry that is left after one was taken out was there before.
 pub in_removed : (s : ViewerEntry) (i : ℕ) (xs : List ViewerEntry) → IsOneOf s (take i xs ++ drop (suc i) xs) → IsOneOf s xs
 in_removed s zero [] h = h
 in_removed s zero (x ∷ xs) h = inr h
@@ -22,13 +22,13 @@ in_removed s (suc i) [] h = h
 in_removed s (suc i) (x ∷ xs) (inl is) = inl is
 in_removed s (suc i) (x ∷ xs) (inr more) = inr (in_removed s i xs more)
 
--- the one at a place is there
+-- The entry at a place is in the list.
 pub in_at : (s : ViewerEntry) (i : ℕ) (xs : List ViewerEntry) → i < length xs → s ≡ slice_index_or xs i s → IsOneOf s xs
 in_at s i [] h is = absurd (omega (arith, h))
 in_at s zero (x ∷ xs) h is = inl is
 in_at s (suc i) (x ∷ xs) h is = inr (in_at s i xs (omega (arith, h)) is)
 
--- the first one of the viewer
+-- The first entry of the viewer.
 pub taken_of : (x : ViewerEntry) (viewer : Option ℕ) (xs : List ViewerEntry) (i : ℕ) → position (λ (s : ViewerEntry). is_same_viewer s.viewer viewer) xs ≡ Some i
     → x ≡ slice_index_or xs i x → IsOneOf (entry_of viewer x.cache) xs
 taken_of x viewer xs i found is =
@@ -36,7 +36,7 @@ taken_of x viewer xs i found is =
     let same : is_same_viewer x.viewer viewer ≡ true = ap (λ (s : ViewerEntry). is_same_viewer s.viewer viewer) is ∙ at.1 in
     subst (λ (v : Option ℕ). IsOneOf (entry_of v x.cache) xs) (same_viewer x.viewer viewer same) (in_at x i xs at.0 is)
 
--- one was put after the others
+-- An entry was put after the others.
 pub in_put : (s x : ViewerEntry) (xs : List ViewerEntry) → IsOneOf s (xs ++ x ∷ []) → (s ≡ x) ⊎ IsOneOf s xs
 in_put s x [] (inl is) = inl is
 in_put s x [] (inr none) = absurd none
@@ -55,7 +55,7 @@ pub in_last : (x : ViewerEntry) (xs : List ViewerEntry) → IsOneOf x (xs ++ x �
 in_last x [] = inl refl
 in_last x (y ∷ ys) = inr (in_last x ys)
 
--- room was made and one was put
+-- Room was made, and an entry was put in.
 pub kept_more : (x : ViewerEntry) (old room new : List ViewerEntry) → ((s : ViewerEntry) → IsOneOf s room → IsOneOf s old)
     → (new ≡ room ++ x ∷ []) ⊎ (new ≡ room) → (s : ViewerEntry) → IsOneOf s new → (s ≡ x) ⊎ IsOneOf s old
 kept_more x old room new left (inl put) s h = elim (in_put s x room (rw put at h)) [
@@ -72,7 +72,7 @@ invalidated_of invalidation all x y is same invalidates = record {
   invalidated = subst (λ (v : Option ℕ). Invalidates invalidation v x.cache y.cache) (sym same) invalidates;
 }
 
--- what is left to invalidate was there, and each that is done was invalidated
+-- The entries that are left to invalidate were there, and each that is done was invalidated.
 pub record AreHalfway (invalidation : Invalidation) (all left done : List ViewerEntry) : Type 0 where
   pub left_of : (s : ViewerEntry) → IsOneOf s left → IsOneOf s all
   pub done_of : AreInvalidated invalidation all done

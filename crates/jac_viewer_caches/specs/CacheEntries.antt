@@ -5,7 +5,7 @@ use Rattle.jac_policy_cache.specs.declared.invalidation.Invalidation.{Invalidati
 use Rattle.jac_policy_cache.specs.ViewerCache.{Invalidates}
 use Rattle.jac_viewer_caches.specs.declared.viewer_caches.ViewerEntry.{ViewerEntry}
 
--- the entry is one of these
+-- The entry is one of these.
 abbrev pub IsOneOf : ViewerEntry → List ViewerEntry → Type 0
 IsOneOf s [] = ⊥
 IsOneOf s (x ∷ xs) = (s ≡ x) ⊎ IsOneOf s xs
@@ -13,13 +13,13 @@ IsOneOf s (x ∷ xs) = (s ≡ x) ⊎ IsOneOf s xs
 abbrev pub entry_of : Option ℕ → ViewerCache → ViewerEntry
 entry_of viewer cache = record { viewer = viewer; cache = cache }
 
--- the cache was kept for this viewer, and the change invalidated it
+-- A cache was kept for this viewer, and the change invalidated it.
 pub record WasInvalidated (invalidation : Invalidation) (old : List ViewerEntry)
     (s : ViewerEntry) : Type 0 where
   pub before : ViewerCache
   pub kept : IsOneOf (entry_of s.viewer before) old
   pub invalidated : Invalidates invalidation s.viewer before s.cache
 
--- the change invalidated each that is left
+-- The change invalidated each entry that is left.
 pub record AreInvalidated (invalidation : Invalidation) (old new : List ViewerEntry) : Type 0 where
   pub each : (s : ViewerEntry) → IsOneOf s new → WasInvalidated invalidation old s

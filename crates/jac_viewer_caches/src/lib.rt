@@ -1,4 +1,4 @@
-//! What was settled for those who looked.
+//! The caches of at most 64 viewers. A change invalidates what it may affect in each of them.
 #![tactic(auto)]
 
 mod viewer_caches;

@@ -10,25 +10,25 @@ use std::alloc::Global;
 use std::marker::Model;
 use std::mem::replace;
 
-/// For so many viewers a cache is kept.
+/// The number of viewers whose caches are kept.
 const VIEWERS: usize = 64;
 
-/// So many labels may have been asked for all that is kept.
+/// The number of labels with cached results that all caches together may have.
 const ASKED: usize = 1 << 18;
 
-/// What was settled for somebody.
+/// A viewer's cache.
 #[derive(Drop)]
 pub struct ViewerEntry {
-    /// Who looked, if anybody did.
+    /// The viewer. `None` means requests without a viewer.
     pub viewer: Option<Id>,
     pub cache: ViewerCache,
 }
 
-/// What was settled, once for each of at most 64 viewers.
+/// The caches of at most 64 viewers, one for each.
 #[derive(Drop)]
 pub struct ViewerCaches {
     viewer_caches: Vec<ViewerEntry>,
-    /// How many were put in, by which it is chosen who is dropped.
+    /// The number of caches that were put in. It determines which cache is dropped.
     puts: usize,
 }
 
@@ -46,7 +46,7 @@ impl Model for ViewerCaches {
 }
 
 impl ViewerCaches {
-    /// Nothing was settled yet.
+    /// No caches.
     pub fn none(alloc: Global) -> ViewerCaches
         ensures { result ≡ [] }
     {
@@ -56,7 +56,7 @@ impl ViewerCaches {
         }
     }
 
-    /// Takes out the cache of the viewer, where one is kept.
+    /// Takes out the cache of the viewer, if there is one.
     pub fn take(&mut self, viewer: &Option<Id>) -> Option<ViewerCache>
         ensures taken { IfSome result (λ cache. IsOneOf (entry_of viewer.now cache) self.old) }
         ensures left { (s : ViewerEntry) → IsOneOf s self.new → IsOneOf s self.old }
@@ -65,11 +65,11 @@ impl ViewerCaches {
     }
 
     /// Keeps the cache for the viewer, whose cache was taken out before. Beyond 64 viewers, and
-    /// beyond 2^18 labels that were asked for all of them, others are dropped one by one until
-    /// there is room, each time another one by chance: of more viewers who look in turn than there
-    /// is room for, some find what they left, where the longest unused one would always be the one
-    /// that looks next. For want of memory the cache itself is dropped, and so is one that is
-    /// overgrown.
+    /// beyond 2^18 labels with cached results in all caches, others are dropped one by one in a
+    /// pseudorandom order until there is room. If more viewers take turns than there is room for,
+    /// some of them then find their caches. Dropping the least recently used cache would always
+    /// drop the one that is needed next. The cache itself is dropped if it is overgrown, or if this
+    /// is out of memory.
     pub fn put(&mut self, viewer: Option<Id>, cache: ViewerCache)
         ensures { (s : ViewerEntry) → IsOneOf s self.new
             → (s ≡ entry_of viewer cache) ⊎ IsOneOf s self.old }
@@ -85,15 +85,15 @@ impl ViewerCaches {
         );
     }
 
-    /// Makes stale for each viewer what the change may have affected. Those that are overgrown then
-    /// are dropped, and for want of memory all are.
+    /// Marks as stale, for each viewer, what the change may have affected. Caches that are
+    /// overgrown then are dropped. If this is out of memory, all caches are.
     pub fn invalidate(&mut self, alloc: Global, invalidation: &Invalidation)
         ensures { AreInvalidated invalidation.now self.old self.new }
     {
         invalidate_in(alloc, &mut self.viewer_caches, invalidation);
     }
 
-    /// Drops all that was kept.
+    /// Drops all caches.
     pub fn forget(&mut self)
         ensures { self.new ≡ [] }
     {
@@ -142,7 +142,8 @@ fn put_in(viewer_caches: &mut Vec<ViewerEntry>, viewer_entry: ViewerEntry, puts:
     push(viewer_caches, viewer_entry);
 }
 
-// While there are too many, or too much was asked for them, one of them is dropped.
+// Drops caches, one by one, while there are too many of them or they have too many labels with
+// cached results.
 fn make_room(viewer_caches: &mut Vec<ViewerEntry>, cache: &ViewerCache, puts: usize)
     ensures { (s : ViewerEntry) → IsOneOf s viewer_caches.new.items → IsOneOf s
         viewer_caches.old.items }
@@ -156,7 +157,7 @@ fn is_full(viewer_caches: &[ViewerEntry], cache: &ViewerCache) -> bool {
     viewer_caches.len() >= VIEWERS || asked_for(viewer_caches, cache) > ASKED
 }
 
-// Drops the one at this place, counted round and round.
+// Drops the cache at this place, modulo the number of caches.
 fn drop_one(viewer_caches: &mut Vec<ViewerEntry>, place: usize)
     requires some { 0 < length viewer_caches.old.items }
     ensures fewer { length viewer_caches.new.items < length viewer_caches.old.items }
@@ -167,12 +168,12 @@ fn drop_one(viewer_caches: &mut Vec<ViewerEntry>, place: usize)
     viewer_caches.remove(place);
 }
 
-// Numbers that follow each other, far from each other (Knuth, multiplicative hashing).
+// Spreads consecutive numbers far apart (Knuth, multiplicative hashing).
 fn spread(number: usize) -> usize {
     number.wrapping_mul(0x9E37_79B9_7F4A_7C15) >> 32
 }
 
-// How many labels were asked for all of them and for this one.
+// The number of labels with cached results in all of these caches and in this one.
 fn asked_for(viewer_caches: &[ViewerEntry], cache: &ViewerCache) -> usize {
     let mut asked = cache.answers.len();
     'viewer_caches: for viewer_entry in viewer_caches {
