@@ -1,4 +1,5 @@
--- Which of the labels that are shown are asked again with one more, and the first of them that then isn't allowed.
+-- Which of the shown labels are evaluated again with one more label, and the first of them that
+-- then isn't allowed.
 use Rattle.std.proofs.Common.{◌≡◌, ◌∙◌, ◌<◌, ◌≤◌, refl, ap, sym, subst, arith, inl, inr, ℕ, ◌==◌, ◌&&◌, ◌||◌, Bool, true, false, true≢false, if◌then◌else◌, List, [], ◌∷◌, Option, Some, None}
 use Rattle.std.specs.Option.{option_map}
 use Rattle.std.proofs.lemmas.Bool.{cases_lt, or_right}
@@ -17,7 +18,7 @@ use Rattle.jac_why.specs.Whys.{beside, world_beside, first_forbidden, why_hidden
 use Rattle.jac_world.proofs.Inserting.{shown-inserted, ascending-inserted}
 use Rattle.jac_why.proofs.Inserting.{grown}
 
--- an assignment with a label more that wasn't consulted
+-- An assignment with one more label that wasn't consulted.
 
 left_out : (p a : Bool) → p ≡ false → a ≡ (p || a)
 left_out true a h = cc
@@ -52,7 +53,7 @@ module _ (context : PlainContext) where
   only_by p true same r is h = sym is ∙ h
   only_by p false same r is h = or_right same r (sym is ∙ h)
 
-  -- a label watches all that its policy consulted
+  -- A label watches all labels that its policy consulted.
   pub watching_by : (label : ℕ) (consulted : List ℕ) (holds : Bool) (old new : Watchers) → Says label consulted holds
       → ((k j : ℕ) → asks_again new k j ≡ ((shown_by consulted k && label == j) || asks_again old k j)) → IsWatching context label old new
   watching_by label consulted holds old new says added = record {
@@ -65,7 +66,7 @@ module _ (context : PlainContext) where
       itself : (x : ℕ) → (x == x) ≡ true
       itself x = grind (arith, nat_tests)
 
-  -- at the start all are left
+  -- At the start all are left.
   pub watching_none : (watchers : Watchers) → ((k j : ℕ) → asks_again watchers k j ≡ false) → AreWatching context context.labels watchers
   watching_none watchers none = record {
     among = λ k j h. absurd (true≢false (sym h ∙ none k j));
@@ -87,7 +88,7 @@ module _ (context : PlainContext) where
       subst (λ (i : ℕ). IsUnmoved context k i) here (one.unmoved k (ap (asks_again new k) here ∙ none))
   unmoved_if x k j rest false old new is left none one before = before left (not_kept (asks_again old k j) (asks_again new k j) (one.kept k j) none)
 
-  -- one label more watches
+  -- One more label is a watcher.
   pub watching_on : (left rest : List ℕ) (x : ℕ) (old new : Watchers) → left ≡ x ∷ rest → shown_by context.labels x ≡ true
       → IsWatching context x old new → AreWatching context left old → AreWatching context rest new
   watching_on left rest x old new is here one so_far = record {
@@ -98,7 +99,7 @@ module _ (context : PlainContext) where
   pub watching_all : (left : List ℕ) (watchers : Watchers) → left ≡ [] → AreWatching context left watchers → AreWatching context [] watchers
   watching_all left watchers none so_far = subst (λ (l : List ℕ). AreWatching context l watchers) none so_far
 
--- the first of rising labels that isn't allowed is the least one
+-- In a rising list, the first label that isn't allowed is the least one.
 
 module _ (app : Application) (t : PlainState) (viewer : Option ℕ) where
   abbrev Allowed : ℕ → Bool
@@ -107,7 +108,7 @@ module _ (app : Application) (t : PlainState) (viewer : Option ℕ) where
   abbrev First : List ℕ → Option ℕ
   First ks = first_forbidden app t viewer ks
 
-  -- the label is one of these, the least that isn't allowed
+  -- The label is one of these, and the least that isn't allowed.
   record IsLeast (ks : List ℕ) (k : ℕ) : Type 0 where
     pub seen : shown_by ks k ≡ true
     pub forbidden : Allowed k ≡ false
@@ -138,7 +139,7 @@ module _ (app : Application) (t : PlainState) (viewer : Option ℕ) where
             omega (arith, later, above)
       ]
 
-  -- whether the first label is allowed, and what is found after it
+  -- Whether the first label is allowed, and what is found after it.
   first_if : (x : ℕ) (xs : List ℕ) (b : Bool) → Allowed x ≡ b → IsAscending (x ∷ xs) → (o : Option ℕ) → IsFirst xs o → IsFirst (x ∷ xs) (if b then o else Some x)
   first_if x xs true is up None rest = λ j seen. step (x == j) j refl seen
     where
@@ -165,7 +166,7 @@ module _ (app : Application) (t : PlainState) (viewer : Option ℕ) where
   first_is (x ∷ xs) up = first_if x xs (Allowed x) refl up (First xs) (first_is xs up.1)
 
   module _ (xs ys : List ℕ) (within : (j : ℕ) → shown_by xs j ≡ true → shown_by ys j ≡ true) (others : (j : ℕ) → shown_by ys j ≡ true → shown_by xs j ≡ false → Allowed j ≡ true) where
-    -- what isn't allowed is among the fewer
+    -- A label that isn't allowed is in the shorter list.
     among : (j : ℕ) (b : Bool) → shown_by xs j ≡ b → shown_by ys j ≡ true → Allowed j ≡ false → shown_by xs j ≡ true
     among j true is seen forbidden = is
     among j false is seen forbidden = absurd (true≢false (sym (others j seen is) ∙ forbidden))
@@ -190,7 +191,8 @@ module _ (app : Application) (t : PlainState) (viewer : Option ℕ) where
     pub first_same : IsAscending xs → IsAscending ys → First xs ≡ First ys
     first_same up up_too = same_first (First xs) (First ys) (first_is xs up) (first_is ys up_too)
 
--- of those that are asked again with a label, and it, the first that isn't allowed is that of all
+-- Of the labels that are evaluated again with a label, and that label, the first that isn't allowed
+-- is the first of all.
 
 module _ (context : PlainContext) (watchers : Watchers) (k : ℕ) (asked : List ℕ)
     (up : IsAscending context.labels) (up_asked : IsAscending asked) (allowed : AreAllowed context.app context.worlds context.viewer context.labels) (watching : AreWatching context [] watchers)

@@ -1,4 +1,4 @@
--- The first label that isn't allowed, and what stands against a label.
+-- The first label that isn't allowed, and what keeps a label hidden.
 use Rattle.std.proofs.Common.{◌≡◌, ◌∙◌, ◌↔◌, arith, refl, ap, sym, subst, ℕ, ◌==◌, ◌&&◌, ◌||◌, not, Bool, true, false, true≢false, if◌then◌else◌, List, [], ◌∷◌, ◌++◌, append_assoc, Option, Some, None, is_some}
 use Rattle.std.specs.List.{list_all}
 use Rattle.std.specs.Option.{option_map}
@@ -39,7 +39,7 @@ module _ (app : Application) (t : PlainState) (viewer : Option ℕ) where
   abbrev First : List ℕ → Option ℕ
   First ks = first_forbidden app t viewer ks
 
-  -- one of the labels isn't allowed
+  -- One of the labels isn't allowed.
   record IsForbidden (labels : List ℕ) (k : ℕ) : Type 0 where
     pub is_shown : shown_by labels k ≡ true
     pub forbidden : Allowed k ≡ false
@@ -72,15 +72,15 @@ module _ (app : Application) (t : PlainState) (viewer : Option ℕ) where
   all_none [] each = refl
   all_none (x ∷ xs) each = all_if x xs (Allowed x) refl (each x (or_left (x == x) (shown_by xs x) (itself x))) (all_none xs (λ k s. each k (or_right (x == k) (shown_by xs k) s)))
 
-  -- the first one is that of the rest, where the one before it is allowed
+  -- If a label is allowed, the first label that isn't is among the rest.
   pub first_on : (labels rest : List ℕ) (x : ℕ) (all : Option ℕ) (answer : Bool) → labels ≡ x ∷ rest → answer ≡ Allowed x → answer ≡ true → First labels ≡ all → First rest ≡ all
   first_on labels rest x all answer is says holds so_far = ap (λ (b : Bool). if b then First rest else Some x) (sym holds ∙ says) ∙ ap First (sym is) ∙ so_far
 
-  -- it is the one that was asked
+  -- It is the label that was evaluated.
   pub first_here : (labels rest : List ℕ) (x : ℕ) (all : Option ℕ) (answer : Bool) → labels ≡ x ∷ rest → answer ≡ Allowed x → answer ≡ false → First labels ≡ all → Some x ≡ all
   first_here labels rest x all answer is says fails so_far = ap (λ (b : Bool). if b then First rest else Some x) (sym fails ∙ says) ∙ ap First (sym is) ∙ so_far
 
-  -- there is none
+  -- There is no such label.
   pub first_none : (labels : List ℕ) (all : Option ℕ) → labels ≡ [] → First labels ≡ all → None ≡ all
   first_none labels all none so_far = ap First (sym none) ∙ so_far
 
@@ -148,14 +148,14 @@ module _ (context : PlainContext) where
   at_stands k true = refl
   at_stands k false = one_stands k (why_hidden context k) refl
 
-  -- all that is found stands
+  -- Each reason that is found keeps its label hidden.
   pub all_stand : (live : List ℕ) → AllStand (all_whys context live)
   all_stand [] = refl
   all_stand (k ∷ ks) =
       list_all-append (is_standing context) (why_at context k) (all_whys context ks)
       ∙ and_from (list_all (is_standing context) (why_at context k)) (list_all (is_standing context) (all_whys context ks)) (at_stands k (shown_by context.labels k)) (all_stand ks)
 
-  -- one label more was asked
+  -- One more label was examined.
   pub whys_on : (left more : List ℕ) (x : ℕ) (made new all : List Explanation) → left ≡ x ∷ more → new ≡ made ++ why_at context x → made ++ all_whys context left ≡ all → new ++ all_whys context more ≡ all
   whys_on left more x made new all is added so_far =
       ap (λ (es : List Explanation). es ++ all_whys context more) added

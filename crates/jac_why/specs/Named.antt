@@ -3,7 +3,7 @@ use Rattle.std.specs.Prelude.{ℕ, Bool, ◌&&◌, ◌==◌}
 use Rattle.jac_value.specs.Ids.{model_of_id, record_of_label, group_of_label}
 use Rattle.jac_why.specs.declared.reasons.Reason.{Reason}
 
--- the label, with the model of its record and its group
+-- The label, with the model of its record and its group.
 abbrev pub as_reason : ℕ → Reason
 as_reason k = record {
   label = k;
@@ -11,7 +11,7 @@ as_reason k = record {
   group = group_of_label k;
 }
 
--- the model and the group are those of the label
+-- The model and the group are those of the label.
 abbrev pub names_its_label : Reason → Bool
 names_its_label r =
     r.model == model_of_id (record_of_label r.label) && r.group == group_of_label r.label

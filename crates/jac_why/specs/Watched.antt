@@ -1,4 +1,4 @@
--- Which shown labels are asked again if one more is shown.
+-- The shown labels whose policies are evaluated again if one more label is shown.
 use Rattle.std.specs.Prelude.{◌≡◌, ◌==◌, ◌||◌, ℕ, Bool, true, false, List}
 use Rattle.std.specs.Ordering.{nat_cmp}
 use Rattle.std.specs.BTreeMap.{get}
@@ -8,25 +8,25 @@ use Rattle.jac_policy_cache.specs.Memo.{watched_in}
 use Rattle.jac_why.specs.declared.watch.Watchers.{Watchers}
 use Rattle.jac_why.specs.Context.{PlainContext}
 
--- the second label is asked again, where the first is shown too
+-- The second label is evaluated again if the first one is shown too.
 abbrev pub asks_again : Watchers → ℕ → ℕ → Bool
 asks_again watchers k j = watched_in (get nat_cmp watchers.lists k) j
 
--- the second label is allowed where the first is shown too as it is without it
+-- Showing the first label too doesn't change whether the second one is allowed.
 abbrev pub IsUnmoved : PlainContext → ℕ → ℕ → Type 0
 IsUnmoved context k j =
     is_allowed context.app (context.worlds (with_label k (shown_by context.labels))) context.viewer
     j
     ≡ is_allowed context.app (context.worlds (shown_by context.labels)) context.viewer j
 
--- one label more is asked again, where it has to be
+-- One more label is evaluated again if it has to be.
 pub record IsWatching (context : PlainContext) (label : ℕ) (old new : Watchers) : Type 0 where
   pub kept : (k j : ℕ) → asks_again old k j ≡ true → asks_again new k j ≡ true
   pub only : (k j : ℕ) → asks_again new k j ≡ true → (label == j || asks_again old k j) ≡ true
   pub unmoved : (k : ℕ) → asks_again new k label ≡ false → IsUnmoved context k label
 
--- of the labels that are shown, but for those that are left, each is asked again where it has
--- to be, and no other is
+-- Each label that is shown, except those that are left, is evaluated again if it has to be. No
+-- other label is.
 pub record AreWatching (context : PlainContext) (left : List ℕ) (watchers : Watchers) : Type 0 where
   pub among : (k j : ℕ) → asks_again watchers k j ≡ true → shown_by context.labels j ≡ true
   pub unmoved :

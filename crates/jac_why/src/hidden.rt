@@ -21,8 +21,8 @@ use jac_world::{Assignment, Label, Steps};
 use std::alloc::Global;
 use std::sync::ledger::Ledger;
 
-/// What keeps a label hidden: of the labels that are shown and this one, the least that isn't
-/// allowed under them. There is none exactly if all are allowed.
+/// What keeps a label hidden: among the labels that are shown and this one, the least that isn't
+/// allowed if they are all shown. There is none if and only if all are allowed.
 pub fn why<K: Keeper, M: Ledger>(
     work: &mut Work<'_, K>,
     context: &ViewerContext<'_>,
@@ -43,8 +43,8 @@ pub fn why<K: Keeper, M: Ledger>(
     Ok(as_reason(first))
 }
 
-/// Whether the reason keeps a label hidden: whether its label is one of those that are
-/// shown and this one, has this model and this group, and isn't allowed under them.
+/// Whether the reason keeps the label hidden. Its label must be shown or be this one, its model and
+/// group must be those of its label, and its label must not be allowed if this one is shown too.
 pub fn check_reason<K: Keeper, M: Ledger>(
     work: &mut Work<'_, K>,
     context: &ViewerContext<'_>,
@@ -77,8 +77,9 @@ pub fn check_reason<K: Keeper, M: Ledger>(
     Ok(!holds)
 }
 
-/// The live labels that aren't shown, in their order, with what keeps each hidden. Where those
-/// that are shown are all allowed, each label costs no more than those that consulted it.
+/// The live labels that aren't shown, in their order, with what keeps each hidden. If all shown
+/// labels are allowed, a label takes no more evaluations than its own and those of the labels that
+/// consulted it.
 pub fn whys<K: Keeper, M: Ledger>(
     work: &mut Work<'_, K>,
     context: &ViewerContext<'_>,
@@ -99,7 +100,7 @@ pub fn whys<K: Keeper, M: Ledger>(
     Ok(whys)
 }
 
-// The same, by who watches which label.
+// The same, with the watchers of each label.
 fn watched_whys<K: Keeper, M: Ledger>(
     work: &mut Work<'_, K>,
     context: &ViewerContext<'_>,
@@ -124,7 +125,7 @@ fn watched_whys<K: Keeper, M: Ledger>(
     Ok(whys)
 }
 
-// What stands against the label, where it isn't shown.
+// Adds what keeps the label hidden, unless it is shown.
 fn add_why<K: Keeper, M: Ledger>(
     work: &mut Work<'_, K>,
     context: &ViewerContext<'_>,
@@ -151,7 +152,7 @@ fn add_why<K: Keeper, M: Ledger>(
     Ok(())
 }
 
-// What stands against a label: only it, and those that watch it, are asked.
+// What keeps a label hidden. Only its policy and those of its watchers are evaluated.
 fn watched_why<K: Keeper, M: Ledger>(
     work: &mut Work<'_, K>,
     context: &ViewerContext<'_>,
@@ -175,12 +176,12 @@ fn watched_why<K: Keeper, M: Ledger>(
     let app = context.app;
     let viewer = &context.viewer;
     let first = find_forbidden(work, app, viewer, &beside, labels, evaluations)?;
-    // Labels that are read ascend.
+    // Reading the labels shows that they ascend.
     let _ = context.labels.as_slice();
     Ok(as_reason(first))
 }
 
-// Which of the labels that are shown consulted which others.
+// For each label, those of the shown labels that consulted it.
 fn watchers<K: Keeper, M: Ledger>(
     work: &mut Work<'_, K>,
     context: &ViewerContext<'_>,
@@ -199,7 +200,7 @@ fn watchers<K: Keeper, M: Ledger>(
     Ok(watchers)
 }
 
-// The label watches all that its policy consults.
+// Makes the label a watcher of all labels that its policy consults.
 fn add_watcher<K: Keeper, M: Ledger>(
     work: &mut Work<'_, K>,
     context: &ViewerContext<'_>,
@@ -282,7 +283,7 @@ fn with_label(alloc: Global, shown: &Assignment, label: Label) -> Result<Assignm
     ensures { IfOk result (λ a. a ≡ with_number label shown.now) }
 {
     let beside = shown.with(alloc, label)?;
-    // Labels that are read ascend.
+    // Reading the labels shows that they ascend.
     let _ = shown.as_slice();
     let _ = beside.as_slice();
     Ok(beside)

@@ -6,7 +6,7 @@ ghost use Rattle.jac_why.specs.declared.reasons.Reason.{Reason as Told};
 ghost use Rattle.jac_why.specs.Context.{PlainContext};
 ghost use Rattle.jac_why.specs.Whys.{beside, why_hidden, stands_against, is_standing, all_whys, AreExplained};
 
-/// A law: if a reason keeps each live label hidden that isn't shown, none of them can be added.
+/// A law: if there is a reason for each live label that isn't shown, none of them can be added.
 pub fn explained_is_full()
     ensures { (context : PlainContext) → AreExplained context
         → (k : ℕ) → IsLiveLabel context.app context.worlds k → shown_by context.labels k ≡ false
@@ -14,7 +14,7 @@ pub fn explained_is_full()
         (shown_by context.labels)) }
 {}
 
-/// A law: if labels are settled, something keeps each other live label hidden.
+/// A law: if labels are settled, there is a reason for each other live label.
 pub fn settled_is_explained()
     ensures { (context : PlainContext) → IsSettled context.app context.worlds context.viewer
         context.labels
@@ -34,7 +34,7 @@ pub fn whys_stand()
         → list_all (is_standing context) (all_whys context live) ≡ true }
 {}
 
-/// A law: nothing keeps a label hidden exactly if all are allowed once it is shown.
+/// A law: nothing keeps a label hidden if and only if all labels are allowed once it is shown.
 pub fn none_where_allowed()
     ensures { (context : PlainContext) (k : ℕ)
         → (why_hidden context k ≡ None

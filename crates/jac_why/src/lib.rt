@@ -1,4 +1,4 @@
-//! Why a label stays hidden from a viewer: a label that isn't allowed once it is shown too.
+//! Explains why a label is hidden from a viewer, and checks such an explanation.
 #![tactic(auto, using(jac_shown_rows::proofs::Growing::agrees_same))]
 
 mod hidden;

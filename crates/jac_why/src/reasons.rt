@@ -5,8 +5,8 @@ ghost use Rattle.jac_why.specs.Named.{as_reason, names_its_label};
 use jac_value::{Id, id_model};
 use jac_world::Label;
 
-/// What keeps a label hidden: a label whose policy isn't true once that one is shown, with
-/// the model of its record and its group.
+/// What keeps another label hidden: a label that isn't allowed once that one is shown, with the
+/// model of its record and its group.
 #[derive(Clone, Copy, PartialEq, Eq)]
 pub struct Reason {
     pub label: Label,

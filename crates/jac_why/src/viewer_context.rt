@@ -2,7 +2,7 @@ use jac_lang::App;
 use jac_value::Id;
 use jac_world::Assignment;
 
-/// The labels that a viewer of an application is shown.
+/// A viewer of an application, and the labels that the viewer is shown.
 #[derive(Clone, Copy)]
 pub struct ViewerContext<'a> {
     pub app: &'a App,

@@ -1,4 +1,4 @@
-//! Which of the labels that are shown are asked again, where one more is.
+//! Which of the shown labels are evaluated again if one more is shown.
 ghost use Rattle.std.specs.Prelude.{◌≡◌, ◌==◌, ◌||◌, ◌&&◌, ℕ, false, IfOk, OnOk};
 ghost use Rattle.std.specs.Ordering.{nat_cmp};
 ghost use Rattle.std.specs.BTreeMap.{get};
@@ -12,7 +12,7 @@ use jac_world::Label;
 use std::alloc::Global;
 use std::collections::BTreeMap;
 
-/// By each label those that consulted it: they are asked again, where it is shown too.
+/// For each label, the labels that consulted it. They are evaluated again if it is shown too.
 #[derive(Drop)]
 pub struct Watchers {
     lists: BTreeMap<Label, Labels>,
@@ -27,7 +27,7 @@ impl Watchers {
         }
     }
 
-    /// The label is asked again with each of those that it consulted.
+    /// Makes the label a watcher of the labels that it consulted.
     pub fn watch(&mut self, alloc: Global, label: Label, consulted: &[Label]) -> Result<(), Memory>
         ensures { OnOk result ((k j : ℕ) → asks_again self.new k j
             ≡ ((shown_by consulted.now k && label == j) || asks_again self.old k j)) }
@@ -35,7 +35,8 @@ impl Watchers {
         watch_all(&mut self.lists, alloc, consulted, label)
     }
 
-    /// The labels that are asked where this one is shown too: those that consulted it, and it.
+    /// The labels that are evaluated if this one is shown too: the labels that consulted it, and
+    /// itself.
     pub fn asked(&self, alloc: Global, label: Label) -> Result<Labels, Memory>
         ensures { IfOk result (λ ls. (j : ℕ) →
             shown_by ls j ≡ (label == j || asks_again self.now label j)) }
@@ -70,7 +71,7 @@ fn watch_all(
     Ok(())
 }
 
-// The first label is watched by the second.
+// Makes the second label a watcher of the first.
 fn watch(
     lists: &mut BTreeMap<Label, Labels>,
     alloc: Global,
