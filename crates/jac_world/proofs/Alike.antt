@@ -8,7 +8,7 @@ use Rattle.jac_world.specs.World.{holds, guard_wants, IsRising, StartsAbove}
 use Rattle.jac_world.proofs.Merging.{equals, beq_not}
 use Rattle.jac_world.proofs.Contradict.{and_true, left_true, same_sign, sign_is, holds_past, can_hold}
 
--- the assignment that shows or hides k, and is w elsewhere
+-- The assignment that gives `k` the value `b`, and every other label the value that `w` gives it.
 abbrev turned : ℕ → Bool → (ℕ → Bool) → ℕ → Bool
 turned k b w j = if j == k then b else w j
 
@@ -19,7 +19,8 @@ turned_past k b w g s r =
 turned_first : (p : ℕ × Bool) (g : List (ℕ × Bool)) (b : Bool) (w : ℕ → Bool) → IsRising (p ∷ g) → holds (turned p.0 b w) (p ∷ g) ≡ (beq p.1 b && holds w g)
 turned_first p g b w r = rw (equals p.0) (ap (λ rest. beq p.1 b && rest) (turned_past p.0 b w g r.0 r.1))
 
--- where a guard holds that has no label up to the first of another, that other one doesn't always hold
+-- If the labels of `h` are above the first label of `p ∷ g`, the two guards don't hold under the
+-- same assignments.
 unlike_first : (p : ℕ × Bool) (g h : List (ℕ × Bool)) → StartsAbove p.0 h → IsRising h → ((w : ℕ → Bool) → holds w (p ∷ g) ≡ holds w h) → ⊥
 unlike_first p g h s r alike =
     let v : ℕ → Bool = turned p.0 (not p.1) (guard_wants h) in
@@ -47,7 +48,7 @@ module _ (p q : ℕ × Bool) (g h : List (ℕ × Bool)) (label : p.0 ≡ q.0) (r
       let there : (beq q.1 p.1 && holds w h) ≡ holds w h = rw (sign, same_sign q.1) refl in
       sym here ∙ either_sign p.1 w ∙ there
 
--- rising guards that hold alike are equal
+-- Rising guards that hold under the same assignments are equal.
 pub same_pairs : (g h : List (ℕ × Bool)) → IsRising g → IsRising h → ((w : ℕ → Bool) → holds w g ≡ holds w h) → g ≡ h
 same_pairs [] [] r s alike = refl
 same_pairs [] (q ∷ h) r s alike = absurd (unlike_first q h [] tt tt (λ w. sym (alike w)))
@@ -66,7 +67,7 @@ same_pairs (p ∷ g) (q ∷ h) r s alike =
       ]
     ]
 
--- the test of two pairs
+-- The test decides whether two pairs are equal.
 pub pairs_decide : (p q : ℕ × Bool) → Decides ((p.0 == q.0) && beq p.1 q.1) (p ≡ q)
 pairs_decide p q =
     let both : Decides ((p.0 == q.0) && beq p.1 q.1) ((p.0 ≡ q.0) × (p.1 ≡ q.1)) = Decides-and (p.0 == q.0) (beq p.1 q.1) (unsigned_Decides p.0 q.0) (booleans_Decides p.1 q.1) in (
@@ -74,7 +75,7 @@ pairs_decide p q =
       (λ h. both.1 (ap (λ r. r.0) h, ap (λ r. r.1) h)),
     )
 
--- a test of the pairs tells whether the guards are equal, and so whether they hold alike
+-- A test that decides whether the lists of pairs are equal decides whether the guards are.
 pub told_equal : (g h xs ys : List (ℕ × Bool)) (r : Bool) → xs ≡ g → ys ≡ h → Decides r (xs ≡ ys) → Decides r (g ≡ h)
 told_equal g h xs ys r mine other d = (λ e. sym mine ∙ d.0 e ∙ other, λ e. d.1 (mine ∙ e ∙ sym other))
 

@@ -1,4 +1,4 @@
--- Rising labels that are searched by bisection; one more in its place, and one less.
+-- Rising labels, searched by bisection: a label inserted in its place, and a label removed.
 use Rattle.std.proofs.Common.{◌≡◌, ◌<◌, ◌≤◌, ◌==◌, ◌||◌, ◌&&◌, ℕ, zero, suc, Bool, true, false, not, List, [], ◌∷◌, ◌++◌, ◌⊎◌, inl, inr, Result, Ok, Err, is_ok, length, get_or, insert, remove, refl, ap, sym, subst, ◌∙◌, arith}
 use Rattle.std.specs.List.Sorted.{IsBinarySearchResult}
 use Rattle.std.specs.Ordering.{nat_cmp}
@@ -33,7 +33,7 @@ none_is : (xs : List ℕ) (x : ℕ) → ((k : ℕ) → k < length xs → (get_or
 none_is [] x differ = refl
 none_is (y ∷ xs) x differ = rw (differ 0 (omega arith)) (none_is xs x (λ k less. differ (suc k) (omega (arith, less))))
 
--- a label that stands somewhere is shown
+-- A label in the list is shown.
 pub one_is : (xs : List ℕ) (x i : ℕ) → i < length xs → get_or xs i 0 ≡ x → shown_by xs x ≡ true
 one_is [] x i less at = absurd (omega (arith, less))
 one_is (y ∷ xs) x zero less at = rw at (rw (itself x) refl)
@@ -51,11 +51,12 @@ among xs x (Err i) up found =
     differs k less (inl low) below above = let l : get_or xs k 0 < x = below k low in grind (arith, nat_tests)
     differs k less (inr high) below above = let l : x < get_or xs k 0 = above k high less in grind (arith, nat_tests)
 
--- where a label that is there stands
+-- A successful search gives the place of the label.
 pub found_at : (xs : List ℕ) (x i : ℕ) → IsAscending xs → IsBinarySearchResult (λ y. nat_cmp y x) xs (Ok i) → (i < length xs) × (get_or xs i 0 ≡ x)
 found_at xs x i up found = let at = searched xs x (Ok i) found (rises xs up) in (at.0, at.1)
 
--- where a label that isn't there has its place
+-- The place at which a missing label is to be inserted: all labels before it are smaller, and all
+-- from it on are larger.
 pub record IsPlace (xs : List ℕ) (x i : ℕ) : Type 0 where
   pub within : i ≤ length xs
   pub below : (k : ℕ) → k < i → get_or xs k 0 < x
@@ -73,7 +74,7 @@ place_behind y ys x i place = record {
   above = λ k past less. place.above (suc k) (omega (arith, past)) (omega (arith, less));
 }
 
--- with one more in its place they still rise
+-- After a label is inserted in its place, the labels still rise.
 pub ascends_with : (xs : List ℕ) (x i : ℕ) → IsAscending xs → IsPlace xs x i → IsAscending (insert xs i x)
 ascends_with [] x zero up place = (tt, tt)
 ascends_with [] x (suc i) up place = absurd (omega (arith, place.within))
@@ -89,13 +90,13 @@ swap true false c = refl
 swap false true c = refl
 swap false false c = refl
 
--- they show one label more
+-- After a label is inserted, the list shows that label too.
 pub shows_with : (xs : List ℕ) (x i : ℕ) → i ≤ length xs → (k : ℕ) → shown_by (insert xs i x) k ≡ ((x == k) || shown_by xs k)
 shows_with xs x zero within k = refl
 shows_with [] x (suc i) within k = absurd (omega (arith, within))
 shows_with (y ∷ ys) x (suc i) within k = ap (λ b. (y == k) || b) (shows_with ys x i (omega (arith, within)) k) ∙ swap (y == k) (x == k) (shown_by ys k)
 
--- with one after them that is above the last they still rise, and show one label more
+-- After a label above the last is appended, the labels still rise.
 pub ascends_end : (xs : List ℕ) (x i d : ℕ) → IsAscending xs → suc i ≡ length xs → get_or xs i d < x → IsAscending (xs ++ x ∷ [])
 ascends_end [] x i d up end above = absurd (omega (arith, end))
 ascends_end (y ∷ []) x zero d up end above = (above, (tt, tt))
@@ -107,7 +108,7 @@ pub shows_end : (xs : List ℕ) (x k : ℕ) → shown_by (xs ++ x ∷ []) k ≡ 
 shows_end [] x k = refl
 shows_end (y ∷ ys) x k = ap (λ b. (y == k) || b) (shows_end ys x k) ∙ swap (y == k) (x == k) (shown_by ys k)
 
--- a label that was found is shown already
+-- A label that was found is shown already.
 pub shows_found : (xs : List ℕ) (x : ℕ) → shown_by xs x ≡ true → (k : ℕ) → shown_by xs k ≡ ((x == k) || shown_by xs k)
 shows_found xs x s k = found_if (x == k) refl
   where
@@ -115,7 +116,7 @@ shows_found xs x s k = found_if (x == k) refl
     found_if true e = ap (shown_by xs) (sym ((Decides-eqb x k).0 e)) ∙ s
     found_if false e = refl
 
--- each label after the first is above it
+-- Each label after the first is above it.
 above_all : (x : ℕ) (xs : List ℕ) → IsAscending (x ∷ xs) → (k : ℕ) → shown_by xs k ≡ true → x < k
 above_all x [] up k s = absurd cc
 above_all x (y ∷ ys) up k s = above_if (y == k) refl s (λ later. (let first : x < y = up.0 in let rest : y < k = above_all y ys up.1 k later in omega (arith, first, rest)))
@@ -137,7 +138,7 @@ starts_without y (x ∷ []) zero starts up less = tt
 starts_without y (x ∷ (z ∷ zs)) zero starts up less = let first : x < z = up.0 in omega (arith, starts, first)
 starts_without y (x ∷ xs) (suc i) starts up less = starts
 
--- with one taken out they still rise
+-- After a label is removed, the labels still rise.
 pub ascends_without : (xs : List ℕ) (i : ℕ) → IsAscending xs → i < length xs → IsAscending (remove xs i)
 ascends_without [] i up less = absurd (omega (arith, less))
 ascends_without (x ∷ xs) zero up less = up.1
@@ -153,7 +154,7 @@ head_without x y k rest less = head_if (x == k) (y == k) refl refl
     head_if true false e f = refl
     head_if false c e f = refl
 
--- they show one label less
+-- After a label is removed, the list shows all other labels that it showed.
 pub shows_without : (xs : List ℕ) (x i : ℕ) → IsAscending xs → i < length xs → get_or xs i 0 ≡ x → (k : ℕ) → shown_by (remove xs i) k ≡ (not (x == k) && shown_by xs k)
 shows_without [] x i up less at k = absurd (omega (arith, less))
 shows_without (y ∷ ys) x zero up less at k = rw (sym at) (first_if (y == k) refl)
@@ -166,7 +167,7 @@ shows_without (y ∷ ys) x (suc i) up less at k =
     let above : y < x = subst (λ (n : ℕ). y < n) at (above_first y ys up i later) in
     ap (λ b. (y == k) || b) (shows_without ys x i up.1 later at k) ∙ head_without y x k (shown_by ys k) above
 
--- a label that wasn't found is hidden already
+-- A label that wasn't found is hidden already.
 pub hides_missing : (xs : List ℕ) (x : ℕ) → shown_by xs x ≡ false → (k : ℕ) → shown_by xs k ≡ (not (x == k) && shown_by xs k)
 hides_missing xs x s k = missing_if (x == k) refl
   where
@@ -185,7 +186,7 @@ first_same x y xs ys up_x up_y same =
     first_if false true e f s t = (Decides-eqb x y).0 f
     first_if false false e f s t = absurd (let a : y < x = above_all y ys up_y x s in let b : x < y = above_all x xs up_x y t in omega (arith, a, b))
 
--- rising labels that show the same are one list
+-- Rising lists that show the same labels are equal.
 pub ascending_same : (xs ys : List ℕ) → IsAscending xs → IsAscending ys → ((k : ℕ) → shown_by xs k ≡ shown_by ys k) → xs ≡ ys
 ascending_same [] [] up_x up_y same = refl
 ascending_same [] (y ∷ ys) up_x up_y same = absurd (let e : false ≡ true = same y ∙ ap (λ b. b || shown_by ys y) (itself y) in cc)

@@ -38,7 +38,7 @@ sign_is true false p = cc
 sign_is false true p = cc
 sign_is false false p = refl
 
--- a guard holds by the labels that it names
+-- Whether a guard holds depends only on the labels that it names.
 pub by_names : (g : List (ℕ × Bool)) (v w : ℕ → Bool) → ((k : ℕ) → names g k ≡ true → v k ≡ w k) → holds v g ≡ holds w g
 by_names [] v w h = refl
 by_names (p ∷ g) v w h =
@@ -46,7 +46,8 @@ by_names (p ∷ g) v w h =
     let r : holds v g ≡ holds w g = by_names g v w (λ k n. h k (or_right (p.0 == k) (names g k) n)) in
     rw (e, r) refl
 
--- assignments that agree above k
+-- If the labels of a guard are above `k`, and two assignments agree above `k`, it holds under both
+-- or neither.
 pub holds_past : (k : ℕ) (v w : ℕ → Bool) (g : List (ℕ × Bool)) → ((j : ℕ) → k < j → v j ≡ w j) → StartsAbove k g → IsRising g → holds v g ≡ holds w g
 holds_past k v w [] h s r = refl
 holds_past k v w (q ∷ []) h s r = rw (h q.0 s) refl
@@ -58,7 +59,7 @@ wanted_first : (b : Bool) → beq b ((true && beq b true) || false) ≡ true
 wanted_first true = refl
 wanted_first false = refl
 
--- a guard holds where what it wants is shown
+-- A rising guard holds under the assignment that shows exactly the labels with sign true.
 pub can_hold : (g : List (ℕ × Bool)) → IsRising g → holds (guard_wants g) g ≡ true
 can_hold [] r = refl
 can_hold (p ∷ g) r =
@@ -76,7 +77,7 @@ told_pair w q k b e f h =
     let k_is : q.0 ≡ k = (Decides-eqb q.0 k).0 e in
     ap w (sym k_is) ∙ sign_is q.1 (w q.0) h ∙ sym (sign_is q.1 b f)
 
--- a guard that holds tells of its labels
+-- If a guard holds, each of its labels has its sign.
 told : (w : ℕ → Bool) (g : List (ℕ × Bool)) (k : ℕ) (b : Bool) → has_pair g k b ≡ true → holds w g ≡ true → w k ≡ b
 told w [] k b p h = cc
 told w (q ∷ g) k b p h = told_more (q.0 == k) (beq q.1 b) (has_pair g k b) (w k ≡ b) p (λ e f. told_pair w q k b e f (left_true _ _ h)) (λ r. told w g k b r (right_true _ _ h))
@@ -101,7 +102,7 @@ unlike true false h e = cc
 unlike false true h e = cc
 unlike false false h e = cc
 
--- a label with two signs
+-- If a label has opposite signs in two guards, they never hold together.
 pub contradict_apart : (g h : List (ℕ × Bool)) → contradict g h ≡ true → IsApart g h
 contradict_apart [] h c w = cc
 contradict_apart (p ∷ g) h c w =
@@ -144,7 +145,8 @@ keeps_sign true false y h n = cc
 keeps_sign false true y h n = cc
 keeps_sign false false y h n = rw (n refl) refl
 
--- what h wants shown as well leaves g, where the two do not contradict
+-- If two guards don't contradict each other and `g` holds, it still holds after the labels that `h`
+-- wants shown are shown too.
 joint_holds : (v : ℕ → Bool) (g h : List (ℕ × Bool)) → contradict g h ≡ false → holds v g ≡ true → holds (λ k. v k || guard_wants h k) g ≡ true
 joint_holds v [] h c e = refl
 joint_holds v (p ∷ g) h c e =
@@ -167,7 +169,7 @@ not_both : (a b : Bool) → a ≡ true → b ≡ true → (a && b) ≡ false →
 not_both true b p q r = cc
 not_both false b p q r = cc
 
--- rising guards that never hold together have a label with two signs
+-- If two rising guards never hold together, some label has opposite signs in them.
 pub apart_contradict : (g h : List (ℕ × Bool)) → IsRising g → IsRising h → IsApart g h → contradict g h ≡ true
 apart_contradict g h r s a =
     is_true (contradict g h)
@@ -198,7 +200,7 @@ at_most_one false n h e = cc
 rest_at_most : (a : Bool) (n : ℕ) → (if a then 1 else 0) + n ≤ 1 → n ≤ 1
 rest_at_most a n h = omega arith
 
--- guards of which at most one holds are apart
+-- If at most one of the guards holds under each assignment, they are pairwise apart.
 pub pairwise : (gs : List (List (ℕ × Bool))) → ((w : ℕ → Bool) → holding w gs ≤ 1) → ArePairwiseApart gs
 pairwise [] h = tt
 pairwise (g ∷ gs) h = (

@@ -4,7 +4,8 @@ use mathlib.Core.Bool.{beq}
 use Rattle.jac_world.specs.World.{holds, both, holding, kept_count, IsMeet, BreaksEarlier, FollowCut}
 use Rattle.jac_world.specs.CutOff.{guard_list, AddsMeet, IsCutOff}
 
--- where the cutting stands: the guards so far, self with the passed labels of the cut as they are, and the labels to come
+-- The state of the loop that cuts off a guard: the guards made so far, `self` with the signs that
+-- `cut` gives the labels passed, and the labels of `cut` that are left.
 pub record Cutting (self cut : List (ℕ × Bool)) (items : List (List (ℕ × Bool))) (prefix rest : List (ℕ × Bool)) : Type 0 where
   pub exact : (w : ℕ → Bool) → holding w items + (if holds w prefix && not (holds w rest) then 1 else 0) ≡ (if holds w self && not (holds w cut) then 1 else 0)
   pub order : FollowCut cut items
@@ -18,7 +19,7 @@ holding-append : (w : ℕ → Bool) (gs hs : List (List (ℕ × Bool))) → hold
 holding-append w [] hs = omega arith
 holding-append w (g ∷ gs) hs = omega (arith, holding-append w gs hs)
 
--- what was added holds where both hold
+-- The guard that was added holds exactly if both guards hold.
 added_holds : (w : ℕ → Bool) (g h : List (ℕ × Bool)) (m : Option (List (ℕ × Bool))) → IsMeet g h m → holding w (guard_list m) ≡ (if both w g h then 1 else 0)
 added_holds w g h None e = rw (e w) refl
 added_holds w g h (Some x) e = rw (e w) (omega arith)
@@ -32,7 +33,7 @@ as_signed true true p = refl
 as_signed true false p = p
 as_signed false b p = cc
 
--- an assignment meets the prefix and the next label turned, or as it is and breaks the rest, or breaks all that is left
+-- If the prefix holds and the rest breaks, the rest breaks either at the next label, or after it.
 step_count : (p b x m : Bool) → (if p && (beq (not b) x && true) then 1 else 0) + (if (p && (beq b x && true)) && not m then 1 else 0) ≡ (if p && not (beq b x && m) then 1 else 0)
 step_count true true true m = omega arith
 step_count true true false m = omega arith
@@ -61,7 +62,7 @@ all_push : {X : Type 0} (P : X → Type 0) (xs : List X) (x : X) → AllByRecurs
 all_push P [] x a p = (p, tt)
 all_push P (y ∷ xs) x a p = (a.0, all_push P xs x a.1 p)
 
--- what comes before a guard comes before a stronger one
+-- If guards break the cut earlier than a guard, they also break it earlier than a stronger one.
 stronger : (cut g h : List (ℕ × Bool)) (gs : List (List (ℕ × Bool))) → ((w : ℕ → Bool) → holds w h ≡ true → holds w g ≡ true) → AllByRecursion (λ x. BreaksEarlier cut x g) gs → AllByRecursion (λ x. BreaksEarlier cut x h) gs
 stronger cut g h [] s a = tt
 stronger cut g h (x ∷ gs) s a = ((λ v w p q. a.0 v w p (s w q)), stronger cut g h gs s a.1)

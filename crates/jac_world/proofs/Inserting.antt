@@ -1,4 +1,4 @@
--- A rising list with one more number shows that one too, and rises.
+-- A number inserted into a rising list: the list shows it too, and still rises.
 use Rattle.std.proofs.Common.{◌≡◌, ℕ, ◌<◌, ◌==◌, ◌||◌, Bool, true, false, if◌then◌else◌, nat_lt, List, [], ◌∷◌, refl, ap, ◌∙◌, inl, inr, suc, arith}
 use Rattle.std.proofs.lemmas.Bool.Decides.{eqb_tells, leb_tells}
 use Rattle.jac_world.specs.World.{shown_by, with_number, IsAscending, StartsAboveBy}
@@ -12,7 +12,7 @@ shown_twice : (a c : Bool) → (a || c) ≡ (a || (a || c))
 shown_twice true c = refl
 shown_twice false c = refl
 
--- the list shows one number more
+-- The list shows the inserted number too.
 pub shown-inserted : (k : ℕ) (xs : List ℕ) (j : ℕ) → shown_by (with_number k xs) j ≡ (k == j || shown_by xs j)
 shown-inserted k [] j = refl
 shown-inserted k (x ∷ xs) j =

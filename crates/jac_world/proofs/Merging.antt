@@ -4,7 +4,7 @@ use Rattle.std.proofs.lemmas.List.Folds.{list_all-append}
 use mathlib.Core.Bool.{beq}
 use Rattle.jac_world.specs.World.{holds, has_pair, contradict, IsRising, IsRisingBy, StartsAbove}
 
--- where the merging of two guards stands: what is made, and what is left of each
+-- The state of the loop that merges two guards: the output, and what is left of each guard.
 pub record Merging (first second out left right : List (ℕ × Bool)) : Type 0 where
   pub same : (w : ℕ → Bool) → (holds w out && (holds w left && holds w right)) ≡ (holds w first && holds w second)
   pub clash : contradict left right ≡ contradict first second
@@ -19,7 +19,7 @@ differs a b h = grind (arith, nat_tests)
 pub equals : (a : ℕ) → (a == a) ≡ true
 equals a = grind (arith, nat_tests)
 
--- a label below the first is not in a rising guard
+-- A label below the first isn't in a rising guard.
 pub absent : (k : ℕ) (b : Bool) (g : List (ℕ × Bool)) → StartsAbove k g → IsRising g → has_pair g k b ≡ false
 absent k b [] s r = refl
 absent k b (q ∷ []) s r = rw (differs q.0 k s) refl
@@ -27,7 +27,7 @@ absent k b (q ∷ (p ∷ g)) s r =
     let t : k < p.0 = omega arith in
     rw (differs q.0 k s) (absent k b (p ∷ g) t r.1)
 
--- a label below all of g clashes with none of it
+-- A label below all labels of `g` contradicts none of them.
 pub skip_right : (g ys : List (ℕ × Bool)) (y : ℕ × Bool) → StartsAbove y.0 g → IsRising g → contradict g (y ∷ ys) ≡ contradict g ys
 skip_right [] ys y s r = refl
 skip_right (p ∷ []) ys y s r =
@@ -49,7 +49,7 @@ drop_first : (a b c d e : Bool) → b ≡ false → c ≡ false → d ≡ e → 
 drop_first true b c d e p q r = rw (p, q) r
 drop_first false b c d e p q r = rw q r
 
--- one label with one sign clashes with nothing
+-- A label that has the same sign at the head of both guards contradicts nothing.
 pub skip_both : (g ys : List (ℕ × Bool)) (x y : ℕ × Bool) → x.0 ≡ y.0 → x.1 ≡ y.1 → StartsAbove x.0 g → IsRising g → StartsAbove y.0 ys → IsRising ys → contradict (x ∷ g) (y ∷ ys) ≡ contradict g ys
 skip_both g ys x y e f s r t u =
     let a : StartsAbove x.0 ys = rw e t in
@@ -66,26 +66,27 @@ no_clash (p ∷ g) = no_clash g
 pub holds-push : (w : ℕ → Bool) (g : List (ℕ × Bool)) (p : ℕ × Bool) → holds w (g ++ p ∷ []) ≡ (holds w g && (beq p.1 (w p.0) && true))
 holds-push w g p = list_all-append (λ q. beq q.1 (w q.0)) g (p ∷ [])
 
--- two lists that go on from one rising list, the second above the first
+-- If the output rises when it is continued with `x ∷ xs` or with `y ∷ ys`, and `x` is below `y`,
+-- then it also rises with `x` and then `y ∷ ys`.
 pub rising-push : {X : Type 0} (key : X → ℕ) (out xs ys : List X) (x y : X) → IsRisingBy key (out ++ x ∷ xs) → IsRisingBy key (out ++ y ∷ ys) → key x < key y → IsRisingBy key ((out ++ x ∷ []) ++ y ∷ ys)
 rising-push key [] xs ys x y r s lt = (lt, s)
 rising-push key (o ∷ []) xs ys x y r s lt = (r.0, (lt, s.1))
 rising-push key (o ∷ (p ∷ out)) xs ys x y r s lt = (r.0, rising-push key (p ∷ out) xs ys x y r.1 s.1 lt)
 
--- a pair of the left comes out
+-- A pair of the left guard is appended to the output.
 out_left : (o p x y : Bool) → ((o && (p && true)) && (x && y)) ≡ (o && ((p && x) && y))
 out_left true true x y = refl
 out_left true false x y = refl
 out_left false p x y = refl
 
--- a pair of the right comes out
+-- A pair of the right guard is appended to the output.
 out_right : (o p x y : Bool) → ((o && (p && true)) && (x && y)) ≡ (o && (x && (p && y)))
 out_right true true x y = refl
 out_right true false true y = refl
 out_right true false false y = refl
 out_right false p x y = refl
 
--- a pair of both comes out once
+-- A pair of both guards is appended to the output once.
 out_both : (o p x y : Bool) → ((o && (p && true)) && (x && y)) ≡ (o && ((p && x) && (p && y)))
 out_both true true x y = refl
 out_both true false x y = refl
@@ -134,13 +135,13 @@ turned true false n = refl
 turned false true n = refl
 turned false false n = absurd (n refl)
 
--- one label with two signs at the heads
+-- If the heads have one label with opposite signs, the guards contradict each other.
 pub clashing : (f s out xs ys : List (ℕ × Bool)) (x y : ℕ × Bool) → Merging f s out (x ∷ xs) (y ∷ ys) → x.0 ≡ y.0 → (x.1 ≡ y.1 → ⊥) → contradict f s ≡ true
 clashing f s out xs ys x y m k n =
     let e : contradict (x ∷ xs) (y ∷ ys) ≡ true = rw k (rw (equals y.0) (rw (turned x.1 y.1 n) refl)) in
     sym m.clash ∙ e
 
--- one of the two is at its end
+-- If nothing is left of one of the guards, they don't contradict each other.
 pub ended : (f s out left right : List (ℕ × Bool)) → Merging f s out left right → (length left ≡ 0) ⊎ (length right ≡ 0) → contradict f s ≡ false
 ended f s out [] right m (inl e) = sym m.clash
 ended f s out (x ∷ left) right m (inl e) = absurd (omega arith)

@@ -5,13 +5,14 @@ abbrev pub guard_list : Option (List (ℕ × Bool)) → List (List (ℕ × Bool)
 guard_list None = []
 guard_list (Some g) = g ∷ []
 
--- the conjunction of g and h was added, where they can hold together
+-- The conjunction of `g` and `h` was added, if they can hold together.
 pub record AddsMeet (g h : List (ℕ × Bool)) (old new : List (List (ℕ × Bool))) : Type 0 where
   pub meet : Option (List (ℕ × Bool))
   pub is_meet : IsMeet g h meet
   pub added : new ≡ old ++ guard_list meet
 
--- one of the guards holds where g holds and the cut doesn't, and they follow the cut
+-- If `g` holds and the cut doesn't, exactly one of the guards holds, and otherwise none. They are
+-- in the order in which they break the cut.
 pub record IsCutOff (g cut : List (ℕ × Bool)) (gs : List (List (ℕ × Bool))) : Type 0 where
   pub exact : (w : ℕ → Bool) → holding w gs ≡ (if holds w g && not (holds w cut) then 1 else 0)
   pub order : FollowCut cut gs

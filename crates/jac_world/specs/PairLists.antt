@@ -3,7 +3,7 @@ use Rattle.std.specs.Prelude.{ℕ, Bool, List}
 use Rattle.jac_world.specs.declared.guard.PairList.{PairList}
 use Rattle.jac_world.specs.declared.guard.PairList.TheVariants as list
 
--- the pairs, whether they are a guard's own or those that copies share
+-- The pairs of the guard, whether it owns them or shares them with copies.
 abbrev pub listed_pairs : PairList → List (ℕ × Bool)
 listed_pairs (list.Own own) = own.items
 listed_pairs (list.Shared shared) = shared.value.items

@@ -45,7 +45,7 @@ impl Assignment {
         self.labels.as_slice()
     }
 
-    /// The same labels and this one.
+    /// The labels of this assignment and the given one.
     pub fn with(&self, alloc: Global, label: Label) -> Result<Assignment, Memory>
         ensures { IfOk result (λ a. (k : ℕ) → shown_by a k ≡ (label == k || shown_by self.now k)) }
     {
@@ -54,7 +54,7 @@ impl Assignment {
         Ok(more)
     }
 
-    /// Shows this label too, whatever was shown.
+    /// Shows this label. It may be shown already.
     pub fn add(&mut self, label: Label) -> Result<(), Memory>
         ensures added { OnOk result ((k : ℕ)
             → shown_by self.new k ≡ (label == k || shown_by self.old k)) }
@@ -63,7 +63,7 @@ impl Assignment {
         add_among(&mut self.labels, label)
     }
 
-    /// Hides this label, whatever was shown.
+    /// Hides this label. It may be hidden already.
     pub fn remove(&mut self, label: Label)
         ensures { (k : ℕ) → shown_by self.new k ≡ (not (label == k) && shown_by self.old k) }
     {

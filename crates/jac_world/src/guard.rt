@@ -8,21 +8,21 @@ use std::alloc::Global;
 use std::marker::Model;
 use std::rc::Rc;
 
-/// A path condition: it holds where each of its labels is shown, for the sign true, or hidden, for
-/// false. Copies share their pairs.
+/// A path condition: labels with signs. It holds if each label with sign true is shown and each
+/// label with sign false is hidden. Copies share their pairs.
 #[derive(Debug, Drop)]
 pub struct Guard {
     pairs: PairList,
 }
 
-// The pairs of one guard, or those that copies of a guard share.
+// The pairs that one guard owns, or those that copies of a guard share.
 #[derive(Debug)]
 enum PairList {
     Own(Vec<(Label, bool)>),
     Shared(Rc<Vec<(Label, bool)>>),
 }
 
-// One step for whoever lets a guard go, whichever list it has.
+// A drop is one step, whichever variant is dropped.
 impl Drop for PairList {
     fn drop(self) {
         match self {
@@ -82,7 +82,7 @@ impl Guard {
             .all(|pair| pair.1 == assignment.shows(pair.0))
     }
 
-    /// The labels with their signs, by rising label.
+    /// The labels with their signs, in rising order of the labels.
     pub fn pairs(&self) -> &[(Label, bool)]
         ensures pairs { result.now ≡ self.now }
         ensures rising { IsRising self.now }
@@ -91,7 +91,7 @@ impl Guard {
         self.list()
     }
 
-    /// Whether both hold under the same assignments.
+    /// Whether both guards hold under the same assignments.
     pub fn is_same(&self, other: &Guard) -> bool
         ensures equal { IsTrue result ↔ self.now ≡ other.now }
         ensures alike { IsTrue result ↔ ((w : ℕ → Bool) → holds w self.now ≡ holds w other.now) }
@@ -99,7 +99,7 @@ impl Guard {
         self.pairs() == other.pairs()
     }
 
-    /// The guard that holds where both hold, or none where they have one label with two signs.
+    /// The guard that holds if both hold, or none if some label has opposite signs in them.
     pub fn meet(&self, alloc: Global, other: &Guard) -> Result<Option<Guard>, Memory>
         ensures exact { IfOk result (IsMeet self.now other.now) }
         ensures none { IfOk result (λ r. IsNone r ↔ IsTrue (contradict self.now other.now)) }
@@ -112,8 +112,9 @@ impl Guard {
         }
     }
 
-    /// Guards that hold where this one holds and the cut doesn't, by the label at which they break
-    /// the cut.
+    /// Guards for the assignments that meet this one and break the cut. Under each of these,
+    /// exactly one of the guards holds, and under any other assignment none. They are in the order
+    /// of the labels at which they break the cut.
     pub fn less(&self, alloc: Global, cut: &Guard) -> Result<Guards, Memory>
         ensures exact { IfOk result (λ gs. (w : ℕ → Bool)
             → holding w gs ≡ (if holds w self.now && not (holds w cut.now) then 1 else 0)) }
@@ -124,7 +125,7 @@ impl Guard {
         Ok(guards)
     }
 
-    /// The same guard. The pairs of a copy aren't copied once more.
+    /// The same guard. If this guard is a copy itself, no pair is copied.
     pub fn copy(&self, alloc: Global) -> Result<Guard, Memory>
         ensures { IfOk result (λ g. g ≡ self.now) }
     {
@@ -179,7 +180,7 @@ impl Guard {
     }
 }
 
-// Adds the guard of both, if they can hold together.
+// Appends the conjunction of both guards, if they can hold together.
 fn add_meet(
     alloc: Global,
     items: &mut Vec<Guard>,
@@ -197,7 +198,8 @@ fn add_meet(
     }
 }
 
-// The pairs of both lists by rising label, unless one label has two signs.
+// The pairs of both lists in rising order of the labels, or none if some label has opposite signs
+// in them.
 fn merge(
     alloc: Global,
     first: &[(Label, bool)],

@@ -1,11 +1,11 @@
-//! Labels by rising number, each once: searched by bisection, and changed in place.
+//! Labels in rising order, each once. They are searched by bisection and changed in place.
 ghost use Rattle.std.specs.Prelude.{◌≡◌, ℕ, true, [], ◌∷◌, ◌++◌, not, ◌==◌, ◌||◌, ◌&&◌, OnOk, OnErr, IsTrue};
 ghost use Rattle.jac_world.specs.World.{shown_by, IsAscending};
 
 use crate::Label;
 use jac_value::Memory;
 
-/// Whether the label is among the labels. It takes the logarithm of their number.
+/// Whether the label is among the labels. It takes logarithmic time in their number.
 pub fn is_among(labels: &[Label], label: Label) -> bool
     requires { IsAscending labels.now }
     ensures { result ≡ shown_by labels.now label }
@@ -13,8 +13,8 @@ pub fn is_among(labels: &[Label], label: Label) -> bool
     labels.binary_search(&label).is_ok()
 }
 
-/// The same labels and this one. It takes no bisection where the label is the last of them, or
-/// above them.
+/// Inserts the label, unless it is there already. If it is the last label or above it, there is no
+/// bisection.
 pub fn add_among(labels: &mut Vec<Label>, label: Label) -> Result<(), Memory>
     requires { IsAscending labels.old.items }
     ensures added { OnOk result ((k : ℕ) → shown_by labels.new.items k
@@ -32,7 +32,7 @@ pub fn add_among(labels: &mut Vec<Label>, label: Label) -> Result<(), Memory>
     add_between(labels, label)
 }
 
-// Whether it is the last of the labels.
+// Whether the label is the last of the labels.
 fn is_last(labels: &[Label], label: Label) -> bool
     ensures { IsTrue result → shown_by labels.now label ≡ true }
 {
@@ -43,7 +43,7 @@ fn is_last(labels: &[Label], label: Label) -> bool
     labels[count - 1] == label
 }
 
-// Whether it is above the last of the labels.
+// Whether the label is above the last of the labels.
 fn is_above(labels: &[Label], label: Label) -> bool
     requires { IsAscending labels.now }
     ensures { IsTrue result → IsAscending (labels.now ++ label ∷ []) }
@@ -71,7 +71,7 @@ fn add_between(labels: &mut Vec<Label>, label: Label) -> Result<(), Memory>
     }
 }
 
-/// The same labels but this one.
+/// Removes the label, if it is there.
 pub fn remove_among(labels: &mut Vec<Label>, label: Label)
     requires { IsAscending labels.old.items }
     ensures removed { (k : ℕ) → shown_by labels.new.items k

@@ -3,8 +3,8 @@ ghost use Rattle.std.specs.Prelude.{◌≡◌, ◌+◌, ◌<◌};
 use std::marker::Model;
 use std::sync::ledger::{Blank, Book, Ledger, Share};
 
-/// How many steps were taken on a ledger. It has no bytes when the program runs, and only `tick`
-/// changes it.
+/// The number of steps counted on a ledger. It takes no bytes at run time, and only `tick` changes
+/// it.
 #[derive(Drop)]
 pub struct Steps<L: Ledger> {
     book: Book<L>,
