@@ -1,4 +1,4 @@
--- A record that stands alone.
+-- A state with one record.
 use Rattle.std.proofs.Common.{◌≡◌, ◌∙◌, sym, subst, refl, ap, arith, zero, suc, ℕ, ◌+◌, ◌-◌, ◌<◌, ◌^◌, Bool, true, List, [], ◌∷◌, ◌++◌, map}
 use Rattle.std.proofs.lemmas.Bool.Decides.{nat_tests}
 use Rattle.std.proofs.lemmas.List.{append_assoc}
@@ -21,7 +21,7 @@ sound_from n k zero m row e made =
     ((tt, tt), (subst (λ j. IsMade j n row.id) here made, tt), tt)
 sound_from n k (suc i) m row e made = (tt, tt, sound_from n (k + 1) i m row (omega (arith, e)) made)
 
--- a record with an id of its model may stand alone
+-- A state with one record is sound, if the id is one of its model.
 pub sound_alone : (m id n : ℕ) (row : Row) → row.id ≡ id → is_id_of id m ≡ true → n ≡ number_of_id id + 1 → IsSound (record { tables = only m row; number = n })
 sound_alone m id n row is fits next =
     let model : model_of_id id ≡ m = grind (arith, nat_tests, fits) in
@@ -33,12 +33,12 @@ sound_alone m id n row is fits next =
       tables = sound_from n 0 m m row (omega arith) (subst (λ i. IsMade m n i) (sym is) made);
     }
 
--- what every assignment shows of it
+-- What each assignment shows of it.
 pub shown_alone : (w : ℕ → Bool) (m : ℕ) (row : Row) → row.guard ≡ [] → map (rows_at w) (only m row) ≡ alone m (plain_row row.id row.cells)
 shown_alone w zero row h = rw h refl
 shown_alone w (suc m) row h = ap (λ ts. [] ∷ ts) (shown_alone w m row h)
 
--- one more table without rows
+-- One more table without rows.
 pub pushed : (items new : List (List Row)) (t : List Row) (m : ℕ) (row : Row) (all : List (List Row)) → new ≡ items ++ t ∷ [] → t ≡ [] → 0 < m → items ++ only m row ≡ all → new ++ only (m - 1) row ≡ all
 pushed items new t m row all e none some before =
     ap (λ ts. ts ++ only (m - 1) row) (e ∙ ap (λ x. items ++ x ∷ []) none)

@@ -1,4 +1,4 @@
--- What alternatives that were added show.
+-- What the added alternatives show.
 use Rattle.std.proofs.Common.{◌≡◌, ◌∙◌, refl, ap, arith, ℕ, ◌+◌, ◌&&◌, not, Bool, true, false, if◌then◌else◌, List, [], ◌∷◌, ◌++◌}
 use Rattle.jac_value.specs.declared.value.Value.{Value}
 use Rattle.jac_world.specs.World.{holds, holding, both}
@@ -39,12 +39,12 @@ parted w gs c true false e = one w gs c e
 parted w gs c false true e = none w gs c e
 parted w gs c false false e = none w gs c e
 
--- guards of which one holds where a does and b doesn't
+-- Exactly one of the guards holds if `row` holds and `guard` doesn't. Otherwise none does.
 pub each_parted : (w : ℕ → Bool) (gs : List (List (ℕ × Bool))) (c : List Value) (row guard : List (ℕ × Bool)) → holding w gs ≡ (if holds w row && not (holds w guard) then 1 else 0)
     → each_holding w gs c ≡ (if holds w guard then [] else (if holds w row then c ∷ [] else []))
 each_parted w gs c row guard e = parted w gs c (holds w row) (holds w guard) e
 
--- the alternatives outside of a guard, one row after another
+-- The alternatives where a guard doesn't hold, one row after another.
 abbrev pub left_outside : (ℕ → Bool) → List (ℕ × Bool) → List Row → List (List Value)
 left_outside w guard [] = []
 left_outside w guard (r ∷ rows) = (if holds w guard then [] else cells_at w (r ∷ [])) ++ left_outside w guard rows
@@ -63,7 +63,7 @@ pub outside_is : (w : ℕ → Bool) (guard : List (ℕ × Bool)) (rows : List Ro
 outside_is w guard [] = empty_if (holds w guard)
 outside_is w guard (r ∷ rows) = outside_if (holds w guard) (holds w r.guard) r.cells (left_outside w guard rows) (cells_at w rows) (outside_is w guard rows)
 
--- rows one after another
+-- Rows one after another.
 abbrev pub one_by_one : (ℕ → Bool) → List Row → List (List Value)
 one_by_one w [] = []
 one_by_one w (r ∷ rows) = (if holds w r.guard then r.cells ∷ [] else []) ++ one_by_one w rows
@@ -76,7 +76,7 @@ pub one_by_one_is : (w : ℕ → Bool) (rows : List Row) → one_by_one w rows �
 one_by_one_is w [] = refl
 one_by_one_is w (r ∷ rows) = ap (λ cs. (if holds w r.guard then r.cells ∷ [] else []) ++ cs) (one_by_one_is w rows) ∙ one_more (holds w r.guard) r.cells (cells_at w rows)
 
--- the alternatives where a guard holds too, one row after another
+-- The alternatives where a guard holds too, one row after another.
 abbrev pub left_within : (ℕ → Bool) → List (ℕ × Bool) → List Row → List (List Value)
 left_within w guard [] = []
 left_within w guard (r ∷ rows) = (if holds w guard then cells_at w (r ∷ []) else []) ++ left_within w guard rows
@@ -99,7 +99,7 @@ met_if false true true c e = cc
 met_if false a false c e = refl
 met_if false false true c e = refl
 
--- a guard that holds where two do, and two that never hold together
+-- A guard that holds if two others hold, and two guards that never hold together.
 pub met : (w : ℕ → Bool) (m g h : List (ℕ × Bool)) (c : List Value) → holds w m ≡ both w g h → (if holds w m then c ∷ [] else []) ≡ (if holds w h then (if holds w g then c ∷ [] else []) else [])
 met w m g h c e = met_if (holds w m) (holds w g) (holds w h) c e
 

@@ -1,4 +1,4 @@
--- Drafts of records: cells with values that were put in, and what is stored of them.
+-- Drafts of records: cells after values are put in, and what is stored for them.
 use Rattle.std.proofs.lemmas.List.{drop_all}
 use Rattle.std.proofs.Common.{◌≡◌, ◌∙◌, sym, refl, ap, ℕ, ◌+◌, ◌<◌, ◌≤◌, not, Bool, true, false, if◌then◌else◌, List, [], ◌∷◌, ◌++◌, append_assoc, append-nil, map, length, drop, suc, drop-cons, add-one, get_or}
 use Rattle.jac_value.specs.declared.value.Value.{Value}
@@ -16,7 +16,7 @@ use Rattle.jac_write.specs.declared.cells.Spot.TheVariants.{Behind, At}
 use Rattle.jac_write.specs.Drafts.{with_cell, with_each, stored_at}
 use Rattle.jac_write.specs.Writes.{cells_at, fitted_from, put_in, sets_at}
 
--- what a step makes of the cells of each row, one row after another
+-- The results of a step for the cells of each row, one row after another.
 abbrev pub each_row : (ℕ → Bool) → (List Value → List Value) → List Row → List (List Value)
 each_row w step [] = []
 each_row w step (r ∷ rows) = map step (cells_at w (r ∷ [])) ++ each_row w step rows
@@ -44,14 +44,14 @@ seen_if : (b : Bool) (spot : Spot) (cells : List Value) (v : Value) → map (λ 
 seen_if true spot cells v = refl
 seen_if false spot cells v = refl
 
--- one value is seen where the guard holds
+-- If the guard holds, exactly one value is shown.
 pub each_seen : (w : ℕ → Bool) (spot : Spot) (cells : List Value) (guard : List (ℕ × Bool)) (v : Value) (leaves : List (List (ℕ × Bool) × Value))
     → leaves_seen w leaves ≡ (if holds w guard then v ∷ [] else [])
     → with_each w spot cells leaves ≡ map (with_cell spot v) (if holds w guard then cells ∷ [] else [])
 each_seen w spot cells guard v leaves e =
     with_each_is w spot cells leaves ∙ ap (map (λ x. with_cell spot x cells)) e ∙ seen_if (holds w guard) spot cells v
 
--- cells that go on with these
+-- The cells of each list, followed by these.
 abbrev pub finished : List Value → List (List Value) → List (List Value)
 finished rest [] = []
 finished rest (c ∷ cs) = (c ++ rest) ∷ finished rest cs
@@ -71,15 +71,15 @@ start_if : (b : Bool) (all : List Value) → finished all (if b then [] ∷ [] e
 start_if true all = refl
 start_if false all = refl
 
--- no cells yet, where a guard holds
+-- There are no cells yet.
 pub finished_start : (w : ℕ → Bool) (guard : List (ℕ × Bool)) (all : List Value) (cs : List (List Value)) → cs ≡ (if holds w guard then [] ∷ [] else []) → finished all cs ≡ (if holds w guard then all ∷ [] else [])
 finished_start w guard all cs e = ap (finished all) e ∙ start_if (holds w guard) all
 
--- one more item of a list
+-- The next item of a list.
 next : {T : Type 0} (xs : List T) (x : T) (i : ℕ) → x ≡ get_or xs i x → i < length xs → drop i xs ≡ x ∷ drop (i + 1) xs
 next xs x i item below = rw add-one (drop-cons xs i x below ∙ ap (λ z. z ∷ drop (suc i) xs) (sym item))
 
--- a new record's next cell
+-- The next cell of a new record.
 pub draft_pushed : (models : List Entity) (fields : List Field) (w : ℕ → Bool) (cells : List (Shape Value)) (facet : Shape Value) (f : ℕ) (rows given new : List Row)
     → facet ≡ get_or cells f facet → f < length cells → given ≡ rows
     → cells_at w new ≡ map (with_cell Behind (fitting (kind_at models fields f) (at w facet))) (cells_at w given)
@@ -100,7 +100,7 @@ put_all : (models : List Entity) (fields : List Field) (s : ℕ × Value) (rest 
 put_all models fields s rest [] = refl
 put_all models fields s rest (c ∷ cs) = ap (λ l. put_in models fields (s ∷ rest) c ∷ l) (put_all models fields s rest cs)
 
--- one more set is put in
+-- One more set is put in.
 pub set_put : (models : List Entity) (fields : List Field) (w : ℕ → Bool) (sets : List (ℕ × Shape Value)) (s : ℕ × Shape Value) (i : ℕ) (rows given new : List Row)
     → s ≡ get_or sets i s → i < length sets → given ≡ rows
     → cells_at w new ≡ map (with_cell (At s.0) (fitting (kind_at models fields s.0) (at w s.1))) (cells_at w given)
@@ -119,7 +119,7 @@ pub sets_done : (models : List Entity) (fields : List Field) (w : ℕ → Bool) 
     → map (put_in models fields (sets_at w (drop i sets))) cs ≡ cs
 sets_done models fields w sets i cs h = ap (λ xs. map (put_in models fields (sets_at w xs)) cs) (drop_all i sets h) ∙ put_none models fields cs
 
--- a draft's next cell is stored
+-- The next cell of a draft is stored.
 pub cell_stored : (models : List Entity) (w : ℕ → Bool) (m id : ℕ) (named : ℕ → Bool) (draft : List Value) (cell : Value) (facet : Shape Value) (f : ℕ) (rows given new : List Row)
     → cell ≡ get_or draft f cell → f < length draft → given ≡ rows
     → at w facet ≡ stored_at models w m id named draft f cell
@@ -150,6 +150,6 @@ parted_if true false p c e = refl
 parted_if false true p c e = refl
 parted_if false false p c e = cc
 
--- a label hides where it isn't shown
+-- A label hides if it isn't shown.
 pub parted_at : (w : ℕ → Bool) (label : ℕ) (hidden : Bool) (p c : Value) → not (w label) ≡ hidden → (if w label then c else p) ≡ (if hidden then p else c)
 parted_at w label hidden p c e = parted_if (w label) hidden p c e

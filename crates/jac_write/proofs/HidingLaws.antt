@@ -1,4 +1,4 @@
--- A record that is made only where it is kept.
+-- A record that is created only where it is kept.
 use Rattle.std.proofs.Common.{◌≡◌, ◌∙◌, sym, refl, ap, ℕ, ◌&&◌, Bool, true, false, not, if◌then◌else◌, List, [], ◌∷◌, Option, Some, None}
 use mathlib.Core.Bool.{beq}
 use Rattle.jac_world.specs.World.{holds, IsMeet}
@@ -14,7 +14,7 @@ shown_if : (b : Bool) → (beq true b && true) ≡ b
 shown_if true = refl
 shown_if false = refl
 
--- the path condition met with a label that is shown
+-- The path condition, together with a label that is shown.
 pub met_shown : (pc shown : List (ℕ × Bool)) (label : ℕ) (guard : Option (List (ℕ × Bool))) → shown ≡ (label, true) ∷ [] → IsMeet pc shown guard → IsKeptUnder (λ w. w label) pc guard
 met_shown pc shown label None one meet = λ w. ap (λ b. holds w pc && b) (sym (ap (holds w) one ∙ shown_if (w label))) ∙ meet w
 met_shown pc shown label (Some guard) one meet = λ w. meet w ∙ ap (λ b. holds w pc && b) (ap (holds w) one ∙ shown_if (w label))
@@ -23,7 +23,7 @@ not_not : (b : Bool) → b ≡ not (not b)
 not_not true = refl
 not_not false = refl
 
--- a record that is hidden by a label is kept where the label is shown
+-- If a label hides the record, the record is kept where the label is shown.
 pub kept_shown : (label : ℕ) (kept : (ℕ → Bool) → Bool) (pc : List (ℕ × Bool)) (guard : Option (List (ℕ × Bool)))
     → ((w : ℕ → Bool) → not (hides w (Some label)) ≡ kept w) → IsKeptUnder (λ w. w label) pc guard → IsKeptUnder kept pc guard
 kept_shown label kept pc None told is = λ w. ap (λ b. holds w pc && b) (sym (not_not (w label) ∙ told w)) ∙ is w
@@ -33,7 +33,7 @@ true_both : (b : Bool) → b ≡ (b && true)
 true_both true = refl
 true_both false = refl
 
--- a record that nothing hides is kept wherever the path condition holds
+-- If no label hides the record, it is kept wherever the path condition holds.
 pub kept_always : (kept : (ℕ → Bool) → Bool) (pc guard : List (ℕ × Bool)) → ((w : ℕ → Bool) → not (hides w None) ≡ kept w) → guard ≡ pc → IsKeptUnder kept pc (Some guard)
 kept_always kept pc guard told same w = ap (holds w) same ∙ true_both (holds w pc) ∙ ap (λ b. holds w pc && b) (told w)
 
@@ -52,7 +52,7 @@ unmade_if true true m row ts e = cc
 unmade_if true false m row ts e = refl
 unmade_if false kept m row ts e = refl
 
--- what is made under a guard is made, where the record is kept, under the path condition
+-- A record that is created under the guard is created where it is kept under the path condition.
 pub made_where_kept : (id m : ℕ) (kept : (ℕ → Bool) → Bool) (row : (ℕ → Bool) → PlainRow) (pc guard : List (ℕ × Bool)) (old new : State)
     → IsKeptUnder kept pc (Some guard) → Creates id (λ w. tables_with m (row w)) guard old new
     → Creates id (λ w. tables_kept (kept w) m (row w)) pc old new
@@ -67,7 +67,7 @@ made_where_kept id m kept row pc guard old new is made n before fresh sound =
       sound = written.sound;
     }
 
--- nothing is made of a record that is kept nowhere under the path condition
+-- If the record is kept nowhere under the path condition, nothing is created.
 pub made_nowhere : (id m : ℕ) (kept : (ℕ → Bool) → Bool) (row : (ℕ → Bool) → PlainRow) (pc : List (ℕ × Bool)) (state : State)
     → IsKeptUnder kept pc None → Creates id (λ w. tables_kept (kept w) m (row w)) pc state state
 made_nowhere id m kept row pc state never n before fresh sound = record {

@@ -13,7 +13,7 @@ use Rattle.jac_keep.specs.declared.alteration.Alterations.{Alterations}
 use Rattle.jac_keep.specs.declared.work.WorkOver.{WorkOver}
 use Rattle.jac_write.specs.Writes.{KeepsOrMerges, PlainTables, numbered_tables, Written, Writes, WritesEach, StaysTold, tables_after_each}
 
--- what is left to write, before it what was
+-- What was written, followed by what is left to write, gives the whole result.
 pub record WritingEach (n : ℕ) (step : (ℕ → Bool) → Value → PlainTables → PlainTables) (all left : List (List (ℕ × Bool) × Value)) (old now : State) : Type 0 where
   pub here : (w : ℕ → Bool) → tables_after_each (step w) (leaves_seen w left) (project_at w now).tables ≡ tables_after_each (step w) (leaves_seen w all) (project_at w old).tables
   pub sound : IsSound (numbered_tables n now)
@@ -21,7 +21,7 @@ pub record WritingEach (n : ℕ) (step : (ℕ → Bool) → Value → PlainTable
 abbrev pub IsWriting : ((ℕ → Bool) → Value → PlainTables → PlainTables) → List (List (ℕ × Bool) × Value) → List (List (ℕ × Bool) × Value) → State → State → Type 0
 IsWriting step all left old now = (n : ℕ) → IsSound (numbered_tables n old) → WritingEach n step all left old now
 
--- a loop that writes through a work
+-- A loop that writes through a work.
 pub record LoopWrites {K : Type 0} (sight : K → KeeperSeen) (old now : WorkOver K Alterations) (model : ℕ) (writing : Type 0) : Type 0 where
   pub attached : IsTrue (sight now.keeper.now).store.attached
   pub a_table : IsTrue (sight now.keeper.now).tells → model < length (sight now.keeper.now).state.tables
@@ -36,7 +36,7 @@ one_more : (step : Value → PlainTables → PlainTables) (b : Bool) (v : Value)
 one_more step true v vs now next e = ap (tables_after_each step vs) e
 one_more step false v vs now next e = ap (tables_after_each step vs) e
 
--- the write of one leaf
+-- The write for one leaf.
 pub write_next : (step : (ℕ → Bool) → Value → PlainTables → PlainTables) (all rest : List (List (ℕ × Bool) × Value)) (guard : List (ℕ × Bool)) (v : Value) (old now next : State)
     → IsWriting step all ((guard, v) ∷ rest) old now → Writes (λ w. step w v) guard now next → IsWriting step all rest old next
 write_next step all rest guard v old now next before write n sound =
@@ -57,7 +57,7 @@ one_if : (step : Value → PlainTables → PlainTables) (b : Bool) (v : Value) (
 one_if step true v tables = refl
 one_if step false v tables = refl
 
--- one value is seen where the path condition holds
+-- If the path condition holds, exactly one value is shown.
 pub write_seen : (step : (ℕ → Bool) → Value → PlainTables → PlainTables) (leaves : List (List (ℕ × Bool) × Value)) (pc : List (ℕ × Bool)) (value_at : (ℕ → Bool) → Value) (old new : State)
     → ((w : ℕ → Bool) → leaves_seen w leaves ≡ (if holds w pc then value_at w ∷ [] else [])) → WritesEach step leaves old new → Writes (λ w. step w (value_at w)) pc old new
 write_seen step leaves pc value_at old new is each n sound = record {

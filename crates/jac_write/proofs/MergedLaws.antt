@@ -1,4 +1,5 @@
--- Merged alternatives: they are of the same record, and show the same cells where one shows.
+-- Merged alternatives are of the same record. If one alternative at most is shown, they show the
+-- same cells.
 use Rattle.std.proofs.Common.{◌≡◌, ◌⊎◌, ◌∙◌, sym, subst, refl, ap, arith, zero, suc, inl, inr, ℕ, ◌+◌, ◌≤◌, ◌==◌, Bool, true, false, if◌then◌else◌, List, [], ◌∷◌, All, length, map, Some, None, unwrap_or}
 use Rattle.std.proofs.lemmas.List.{length-map}
 use Rattle.jac_value.specs.Ids.{model_of_id}
@@ -37,7 +38,7 @@ cells_of : (w : ℕ → Bool) (rows : List Row) → cells_at w rows ≡ map cell
 cells_of w [] = refl
 cells_of w (r ∷ rows) = cells_if (holds w r.guard) r (cells_at w rows) (rows_at w rows) (cells_of w rows)
 
--- where at most one alternative shows, the merged ones show its cells
+-- If at most one alternative is shown, the merged ones show its cells.
 pub cells_kept : (rows merged : List Row) → Shows rows merged
     → (w : ℕ → Bool) → length (cells_at w rows) ≤ 1 → cells_at w merged ≡ cells_at w rows
 cells_kept rows merged shows w one =
@@ -47,7 +48,7 @@ cells_kept rows merged shows w one =
 abbrev one : ℕ → List Row → List Alteration
 one id rows = record { id = id; rows = rows } ∷ []
 
--- what the alternatives of a record are now
+-- The alternatives of a record after a write: the old ones, or merged ones.
 abbrev Now : List Row → List Row → Type 0
 Now was now = (now ≡ was) ⊎ AreMerged now
 
@@ -69,14 +70,14 @@ put_from i id k zero new (t ∷ tables) own merged e =
     subst (λ model. Now (alternatives i t) (alternatives i (altered_rows model (one id new) t))) here (put_in_table i id new t own merged)
 put_from i id k (suc m) new (t ∷ tables) own merged e = put_from i id (k + 1) m new tables own merged (omega (arith, e))
 
--- the alternatives that take the place of a record's are merged
+-- The alternatives that replace a record's old ones are merged.
 pub put_merged : (id : ℕ) (old mid new : State) (put : List Row) → All (λ (r : Row). r.id ≡ id) put → AreMerged put
     → mid ≡ old → new ≡ state_with id put mid → KeepsOrMerges old new
 put_merged id old mid new put own merged same done =
     let state : new ≡ state_with id put old = done ∙ ap (state_with id put) same in
     subst (KeepsOrMerges old) (sym state) (λ i. put_from i id 0 (model_of_id i) put old.tables (are_of id put own) merged (omega arith))
 
--- nothing was written
+-- Nothing was written.
 pub kept : (old new : State) → new ≡ old → KeepsOrMerges old new
 kept old new same i = inl (ap (λ (s : State). alternatives i (rows_of s.tables (model_of_id i))) same)
 
@@ -85,7 +86,7 @@ now_then a b c first (inr merged) = inr merged
 now_then a b c (inl same) (inl again) = inl (again ∙ same)
 now_then a b c (inr merged) (inl again) = inr (subst AreMerged (sym again) merged)
 
--- one write after another
+-- One write after another.
 pub merged_then : (a b c : State) → KeepsOrMerges a b → KeepsOrMerges b c → KeepsOrMerges a c
 merged_then a b c first second i =
     now_then (alternatives i (rows_of a.tables (model_of_id i))) (alternatives i (rows_of b.tables (model_of_id i)))

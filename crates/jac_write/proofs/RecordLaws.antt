@@ -1,4 +1,5 @@
--- A record's alternatives are replaced: what every assignment shows then, and that the tables stay sound.
+-- A record's alternatives are replaced: what each assignment shows afterwards, and that the tables
+-- stay sound.
 use Rattle.std.proofs.Common.{◌≡◌, ◌∙◌, sym, subst, refl, ap, arith, zero, suc, ℕ, ◌+◌, ◌<◌, ◌≤◌, ◌^◌, ◌==◌, ◌&&◌, nat_lt, Bool, true, false, if◌then◌else◌, List, [], ◌∷◌, ◌++◌, All, length, map}
 use Rattle.std.proofs.lemmas.List.{append_assoc}
 use Rattle.std.specs.Prelude.{slice_set}
@@ -34,7 +35,7 @@ id_of_row r = r.id
 abbrev guard_of_row : Row → List (ℕ × Bool)
 guard_of_row r = r.guard
 
--- rows in place of a record's
+-- The rows after these replace a record's rows.
 abbrev pub spliced : ℕ → List PlainRow → List PlainRow → List PlainRow
 spliced id new rows = with_ids (λ i. nat_lt i id) rows ++ new ++ with_ids (λ i. nat_lt id i) rows
 
@@ -46,7 +47,7 @@ passing_if w test r rs true false p h e = rw (p, h) e
 passing_if w test r rs false true p h e = rw (p, h) (rw p e)
 passing_if w test r rs false false p h e = rw (p, h) e
 
--- the rows of some ids, in one world
+-- The rows with ids that pass a test, in one world.
 pub with_ids_at : (w : ℕ → Bool) (test : ℕ → Bool) (rows : List Row) → rows_at w (with_id test rows) ≡ with_ids test (rows_at w rows)
 with_ids_at w test [] = refl
 with_ids_at w test (r ∷ rows) = passing_if w test r rows (test r.id) (holds w r.guard) refl refl (with_ids_at w test rows)
@@ -80,7 +81,7 @@ set_from w id k (suc j) new (t ∷ ts) h =
     let other : (model_of_id id == k) ≡ false = grind (arith, h) in
     rw (altered_at w id k new t false other, set_from w id (k + 1) j new ts (omega (arith, h))) refl
 
--- what the tables show after the replacement
+-- What the tables show after the replacement.
 pub tables_with : (w : ℕ → Bool) (id m : ℕ) (new : List Row) (s : State) → model_of_id id ≡ m
     → (project_at w (state_with id new s)).tables ≡ slice_set (project_at w s).tables m (spliced id (rows_at w new) (rows_of (project_at w s).tables m))
 tables_with w id m new s h = set_from w id 0 m new s.tables (omega (arith, h))
@@ -95,7 +96,7 @@ set_same m [] = refl
 set_same zero (t ∷ ts) = refl
 set_same (suc m) (t ∷ ts) = ap (λ xs. t ∷ xs) (set_same m ts)
 
--- the rows of a record as its cells
+-- The rows of a record as its cells.
 named_if : (b : Bool) (id : ℕ) (r : Row) (rs : List PlainRow) (cs : List (List Value)) → r.id ≡ id → rs ≡ map (plain_row id) cs
     → (if b then plain_row r.id r.cells ∷ rs else rs) ≡ map (plain_row id) (if b then r.cells ∷ cs else cs)
 named_if true id r rs cs e h = rw (e, h) refl
@@ -113,7 +114,7 @@ pub of-alternatives : (id : ℕ) (rows : List Row) → AreOf id (alternatives id
 of-alternatives id [] = tt
 of-alternatives id (r ∷ rows) = of_if id r (alternatives id rows) (r.id == id) refl (of-alternatives id rows)
 
--- plain rows of rising ids, all above one
+-- Plain rows with rising ids that are all greater than this one.
 record Beyond (id : ℕ) (rows : List PlainRow) : Type 0 where
   low : with_ids (λ i. nat_lt i id) rows ≡ []
   here : with_ids (λ i. i == id) rows ≡ []
@@ -151,7 +152,7 @@ same_case id r rows false false less same h e =
     let all : Beyond id (r ∷ rows) = beyond id id (r ∷ rows) above h (omega arith) in
     rw (all.low, all.here, all.high) refl
 
--- a record's own rows
+-- A record's own rows replace themselves.
 pub spliced_same : (id : ℕ) (rows : List PlainRow) → ArePlainRows rows → spliced id (with_ids (λ i. i == id) rows) rows ≡ rows
 spliced_same id [] h = refl
 spliced_same id (r ∷ rows) h = same_case id r rows (nat_lt r.id id) (r.id == id) refl refl h (spliced_same id rows h.1)
@@ -171,7 +172,7 @@ left_case id r rows false false less same h e =
     let all : Beyond id (r ∷ rows) = beyond id id (r ∷ rows) above h (omega arith) in
     rw (all.low, all.high, all.left) refl
 
--- no rows in their place
+-- No rows replace a record's.
 pub spliced_without : (id : ℕ) (rows : List PlainRow) → ArePlainRows rows → spliced id [] rows ≡ without id rows
 spliced_without id [] h = refl
 spliced_without id (r ∷ rows) h = left_case id r rows (nat_lt r.id id) (r.id == id) refl refl h (spliced_without id rows h.1)
@@ -199,13 +200,14 @@ changed_case f id r rows false false less same h e =
     let all : Beyond id (r ∷ rows) = beyond id id (r ∷ rows) above h (omega arith) in
     rw (all.low, all.here, all.high, all.same f) refl
 
--- a record's own rows with their cells changed
+-- A record's own rows, with changed cells, replace them.
 pub spliced_changed : (f : List Value → List Value) (id : ℕ) (rows : List PlainRow) → ArePlainRows rows
     → spliced id (renewed f id (with_ids (λ i. i == id) rows)) rows ≡ changed_rows id f rows
 spliced_changed f id [] h = refl
 spliced_changed f id (r ∷ rows) h = changed_case f id r rows (nat_lt r.id id) (r.id == id) refl refl h (spliced_changed f id rows h.1)
 
--- guarded rows of rising ids, of which those of one record are apart, show rows of strictly rising ids
+-- If the ids of rows don't fall, and the guards of one record's rows contradict each other, the ids
+-- of the rows that are shown rise.
 not_same : (a b : Bool) → a ≡ true → b ≡ true → (a && b) ≡ false → ⊥
 not_same true b p q r = cc
 not_same false b p q r = cc
@@ -231,7 +233,7 @@ pub rising_at : (w : ℕ → Bool) (rows : List Row) → AreRising rows → AreP
 rising_at w [] t = tt
 rising_at w (x ∷ xs) t = rising_if w x xs (holds w x.guard) refl t.0 (rising_at w xs t.1)
 
--- at most one row has an id
+-- At most one row has an id.
 few_case : (id : ℕ) (r : PlainRow) (rows : List PlainRow) (b : Bool) → (r.id == id) ≡ b → ArePlainRows (r ∷ rows) → length (with_ids (λ i. i == id) rows) ≤ 1
     → length (if b then r ∷ with_ids (λ i. i == id) rows else with_ids (λ i. i == id) rows) ≤ 1
 few_case id r rows true e h few =
@@ -251,7 +253,7 @@ cells-named : (id : ℕ) (cs : List (List Value)) → map cells (map (plain_row 
 cells-named id [] = refl
 cells-named id (c ∷ cs) = ap (λ xs. c ∷ xs) (cells-named id cs)
 
--- the cells of a record's alternatives are those of its row
+-- The cells of a record's alternatives are those of its row.
 pub cells_shown : (w : ℕ → Bool) (id : ℕ) (table : List Row) → cells_at w (alternatives id table) ≡ map cells (with_ids (λ i. i == id) (rows_at w table))
 cells_shown w id table =
     sym (cells-named id (cells_at w (alternatives id table)))
@@ -263,7 +265,7 @@ few_cells w id table h =
     ap length (cells_shown w id table) ∙ length-map cells (with_ids (λ i. i == id) (rows_at w table)) in
     rw long (few_of id (rows_at w table) (rising_at w table h))
 
--- alternatives of which each assignment shows at most one are apart
+-- If each assignment shows at most one of the alternatives, their guards contradict each other.
 none_if : (b : Bool) (c : List Value) (cs : List (List Value)) → length (if b then c ∷ cs else cs) ≤ 0 → length cs ≤ 0
 none_if true c cs h = absurd (omega (arith, h))
 none_if false c cs h = h
@@ -307,7 +309,7 @@ pub made_all : (m n id : ℕ) (rows : List Row) → AreOf id rows → IsMade m n
 made_all m n id [] h made = tt
 made_all m n id (r ∷ rows) h made = (subst (λ i. IsMade m n i) (sym h.0) made, made_all m n id rows h.1 made)
 
--- a table of sound tables
+-- One of the tables of a sound state.
 sound_table : (IsRow : ℕ → Row → Type 0) (from i : ℕ) (tables : List (List Row)) → AreTablesOf AreRising IsRow from tables
     → AreRising (rows_of tables i) × AllByRecursion (IsRow (from + i)) (rows_of tables i)
 sound_table IsRow from i [] h = (tt, tt)
@@ -327,11 +329,11 @@ table_made n m s sound =
     let here : 0 + m ≡ m = omega arith in
     subst (λ k. AllByRecursion (λ (r : Row). IsMade k n r.id) (rows_of s.tables m)) here (sound_table (λ model (r : Row). IsMade model n r.id) 0 m s.tables sound.tables).1
 
--- a change leaves a sound state, as the keeper's crate has it
+-- A sound state stays sound after a change. It is proved in jac_keep.
 abbrev pub SoundLaw : Type 0
 SoundLaw = (c : Change) (s : State) → IsSound s → s.number ≤ c.number → c.number ≤ 2 ^ 40 → AllStand c.number c.changed → IsSound (changed_state c s)
 
--- what a step on rows of a record makes of its cells
+-- The function gives the cells of the record after a step on the rows.
 abbrev pub IsStepOn : ℕ → (List PlainRow → List PlainRow) → (List (List Value) → List (List Value)) → Type 0
 IsStepOn id step g = (rows : List PlainRow) → ArePlainRows rows → step rows ≡ spliced id (map (plain_row id) (g (map cells (with_ids (λ i. i == id) rows)))) rows
 
@@ -364,11 +366,11 @@ few_then : (b : Bool) (old : List (List Value)) (g : List (List Value) → List 
 few_then true old g h few = few old h
 few_then false old g h few = h
 
--- alternatives that show the same cells where at most one is shown
+-- The alternatives show the same cells, if at most one is shown.
 abbrev pub ShowCells : List Row → List Row → Type 0
 ShowCells rows put = (w : ℕ → Bool) → length (cells_at w rows) ≤ 1 → cells_at w put ≡ cells_at w rows
 
--- new alternatives show at most one, so those that show the same may take their place
+-- The new alternatives show at most one, so that alternatives which show the same may replace them.
 pub shows_put : (n id m : ℕ) (s : State) (guard : List (ℕ × Bool)) (new put : List Row) (g : (ℕ → Bool) → List (List Value) → List (List Value))
     → IsSound (numbered_tables n s)
     → ((w : ℕ → Bool) → cells_at w new ≡ (if holds w guard then g w (cells_at w (alternatives id (rows_of s.tables m))) else cells_at w (alternatives id (rows_of s.tables m))))
@@ -380,7 +382,8 @@ shows_put n id m s guard new put g sound shows few same w =
     let one : length (cells_at w new) ≤ 1 = rw (shows w) (few_then (holds w guard) old (g w) (few_cells w id (rows_of s.tables m) (table_rising n m s sound)) (few w)) in
     same w one ∙ shows w
 
--- new alternatives of a record, where the guard holds those that the step leaves and else those that were
+-- The new alternatives of a record: where the guard holds, those after the step, and elsewhere the
+-- old ones.
 pub written : SoundLaw → (n id m : ℕ) (s : State) (guard : List (ℕ × Bool)) (new : List Row)
     (g : (ℕ → Bool) → List (List Value) → List (List Value)) (step : (ℕ → Bool) → List PlainRow → List PlainRow)
     → IsSound (numbered_tables n s) → model_of_id id ≡ m → IsMade m n id → AreOf id new
@@ -412,7 +415,7 @@ untouched_case : (m : ℕ) (tables : PlainTables) (rows : List PlainRow) (b : Bo
 untouched_case m tables rows true e = sym (ap (slice_set tables m) e ∙ set_same m tables)
 untouched_case m tables rows false e = refl
 
--- a record that isn't there
+-- A record that doesn't exist.
 pub absent : (n id m : ℕ) (s : State) (guard : List (ℕ × Bool)) (g : (ℕ → Bool) → List (List Value) → List (List Value)) (step : (ℕ → Bool) → List PlainRow → List PlainRow)
     → IsSound (numbered_tables n s) → alternatives id (rows_of s.tables m) ≡ [] → ((w : ℕ → Bool) → g w [] ≡ []) → ((w : ℕ → Bool) → IsStepOn id (step w) (g w))
     → Written n (λ w ts. slice_set ts m (step w (rows_of ts m))) guard s s
@@ -448,7 +451,7 @@ made_case : (m n id : ℕ) (r : Row) (others rows : List Row) (b : Bool) → (r.
 made_case m n id r others rows true same e made rest = subst (λ i. IsMade m n i) (eqb-true r.id id same) made
 made_case m n id r others rows false same e made rest = rest e
 
--- a record that is there was made
+-- If a record exists, a request made it.
 made_of : (m n id : ℕ) (table : List Row) (first : Row) (rest : List Row) → alternatives id table ≡ first ∷ rest → AllByRecursion (λ (r : Row). IsMade m n r.id) table → IsMade m n id
 made_of m n id [] first rest e made = cc
 made_of m n id (r ∷ rows) first rest e made =
@@ -464,7 +467,7 @@ left_case_of : (b : Bool) (t : PlainTables) → t ≡ (if b then t else t)
 left_case_of true t = refl
 left_case_of false t = refl
 
--- a step that leaves the tables
+-- A step that doesn't change the tables.
 pub idle : (n : ℕ) (s : State) (guard : List (ℕ × Bool)) (step : (ℕ → Bool) → PlainTables → PlainTables) → ((w : ℕ → Bool) (ts : PlainTables) → step w ts ≡ ts) → IsSound (numbered_tables n s)
     → Written n step guard s s
 idle n s guard step same sound = record {
@@ -487,7 +490,7 @@ first_of : (rows : List Row) → false ≡ (length rows == 0) → First rows
 first_of [] h = cc
 first_of (r ∷ rows) h = record { first = r; rest = rows; is = refl }
 
--- what was read of a record is nothing, and nothing was written
+-- If the record doesn't exist, nothing was written.
 pub absent_by : (n id m : ℕ) (old new : State) (guard : List (ℕ × Bool)) (rows : List Row)
     (g : (ℕ → Bool) → List (List Value) → List (List Value)) (step : (ℕ → Bool) → List PlainRow → List PlainRow)
     → ((w : ℕ → Bool) → g w [] ≡ []) → ((w : ℕ → Bool) → IsStepOn id (step w) (g w))
@@ -497,7 +500,7 @@ absent_by n id m old new guard rows g step left is sound exact none same =
     subst (λ s. Written n (λ w ts. slice_set ts m (step w (rows_of ts m))) guard old s) (sym same)
     (absent n id m old guard g step sound (sym exact ∙ empty_of rows none) left is)
 
--- what was read of a record was replaced
+-- If the record exists, its alternatives were replaced.
 pub replaced_by : SoundLaw → (n id m : ℕ) (old mid new : State) (guard : List (ℕ × Bool)) (rows given kept put : List Row)
     (g : (ℕ → Bool) → List (List Value) → List (List Value)) (step : (ℕ → Bool) → List PlainRow → List PlainRow)
     → ((w : ℕ → Bool) (cs : List (List Value)) → length cs ≤ 1 → length (g w cs) ≤ 1) → ((w : ℕ → Bool) → IsStepOn id (step w) (g w))

@@ -1,4 +1,4 @@
--- A group of the program stands where what it stands for does.
+-- Each group of the program has the same place as its counterpart in the definitions.
 use Rattle.std.proofs.Common.{◌≡◌, ◌∙◌, sym, refl, ap, arith, ℕ, ◌<◌, ◌≤◌, ◌&&◌, Bool, true, false, if◌then◌else◌, zero, suc, List, [], ◌∷◌, length, Option, Some, None, IfSome, option_map, slice_get}
 use Rattle.std.proofs.lemmas.List.Quantifiers.{position-Some}
 use Rattle.std.proofs.lemmas.Option.{slice_get_past}
@@ -46,7 +46,7 @@ never : (b : Bool) → false ≡ (b && false)
 never true = refl
 never false = refl
 
--- no group guards a field that isn't there
+-- No group guards a field that doesn't exist.
 past_fields : (models : List Entity) (w : ℕ → Bool) (m id f : ℕ) (named : Bool) → length (fields_at models m) ≤ f → false ≡ (named && is_hidden models w m id f)
 past_fields models w m id f named h =
     never named ∙ ap (λ o. named && is_hidden_by w id (group_for (groups_at models m) o)) (sym (slice_get_past (fields_at models m) f h))

@@ -1,4 +1,4 @@
--- A record that is made beside its alternatives that stand, and one whose cells are changed.
+-- A record that is created beside existing alternatives, and a record with changed cells.
 use Rattle.std.proofs.Common.{◌≡◌, ◌∙◌, sym, subst, refl, ap, arith, ℕ, ◌<◌, ◌≤◌, ◌==◌, Bool, true, false, if◌then◌else◌, List, [], ◌∷◌, ◌++◌, append-nil, All, map, length, Option, Some}
 use Rattle.std.proofs.lemmas.Bool.Decides.{nat_tests}
 use Rattle.std.proofs.lemmas.List.{length-map}
@@ -30,7 +30,7 @@ none_with : (id : ℕ) (rows : List PlainRow) → stands (record_with id rows) �
 none_with id [] e = refl
 none_with id (r ∷ rows) e = absent_if (r.id == id) r (record_with id rows) (with_ids (λ i. i == id) rows) e (none_with id rows)
 
--- a record that doesn't stand has no cells
+-- A record that doesn't exist has no cells.
 no_cells : (w : ℕ → Bool) (id m : ℕ) (s : State) → stands (record_with id (rows_of (project_at w s).tables m)) ≡ false → cells_at w (alternatives id (rows_of s.tables m)) ≡ []
 no_cells w id m s e =
     let here : stands (record_with id (rows_at w (rows_of s.tables m))) ≡ false = subst (λ rows. stands (record_with id rows) ≡ false) (shown_rows w m s.tables) e in
@@ -46,7 +46,7 @@ made_by m n id fits before =
     let some : 0 < number_of_id id = grind (arith, nat_tests, fits) in
     record { of_model = model; is_one = fits; numbered = some; made = before }
 
--- a new record beside the alternatives that stand, none of which holds where it does
+-- A new record beside existing alternatives. None of these holds where the new record does.
 pub created : SoundLaw → (n id m : ℕ) (old mid new : State) (pc : List (ℕ × Bool)) (rows given all put : List Row) (made : (ℕ → Bool) → List Value)
     → number_of_id id < n → is_id_of id m ≡ true → ((w : ℕ → Bool) → holds w pc ≡ true → stands (record_with id (rows_of (project_at w old).tables m)) ≡ false)
     → IsSound (numbered_tables n old) → rows ≡ alternatives id (rows_of old.tables m) → given ≡ rows
@@ -74,7 +74,8 @@ remade_if : (b : Bool) (put store : List Value → List Value) (cs : List (List 
 remade_if true put store cs = map_both put store cs
 remade_if false put store cs = append-nil cs
 
--- the alternatives outside of a guard, and those within as they are stored with values put in
+-- The alternatives where a guard doesn't hold, and those where it holds, as they are stored after
+-- the sets.
 pub remade : (w : ℕ → Bool) (guard : List (ℕ × Bool)) (put store : List Value → List Value) (old outside within drafts new : List (List Value))
     → outside ≡ (if holds w guard then [] else old) → within ≡ (if holds w guard then old else []) → drafts ≡ map put within → new ≡ outside ++ map store drafts
     → new ≡ (if holds w guard then map (λ c. store (put c)) old else old)
@@ -91,7 +92,7 @@ none_by : (n m id : ℕ) (s : State) (rows : List Row) → rows ≡ alternatives
 none_by n m id s [] e sound other = refl
 none_by n m id s (r ∷ rows) e sound other = absurd (not_both (is_id_of id m) other (record_made n m id s r rows sound (sym e)).is_one)
 
--- a number that is no id of the model has no alternatives in its table
+-- If a number isn't an id of the model, the model's table has no alternatives of it.
 pub no_record : (n m id : ℕ) (s : State) → IsSound (numbered_tables n s) → is_id_of id m ≡ false → alternatives id (rows_of s.tables m) ≡ []
 no_record n m id s sound other = none_by n m id s (alternatives id (rows_of s.tables m)) refl sound other
 

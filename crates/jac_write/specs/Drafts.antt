@@ -11,36 +11,36 @@ use Rattle.jac_write.specs.declared.named.Named.TheVariants.{Every, Set, From}
 use Rattle.jac_write.specs.Regrouped.{is_guarded_from}
 use Rattle.jac_write.specs.Writes.{is_put, sets_at}
 
--- the cells with the value in its spot
+-- The cells with the value in its spot.
 abbrev pub with_cell : Spot → Value → List Value → List Value
 with_cell Behind v cells = cells ++ v ∷ []
 with_cell (At f) v cells = slice_set cells f v
 
--- the cells with the value of each leaf that is seen
+-- The cells with the value of each leaf with a guard that holds.
 abbrev pub with_each : (ℕ → Bool) → Spot → List Value → List (List (ℕ × Bool) × Value)
     → List (List Value)
 with_each w spot cells [] = []
 with_each w spot cells (p ∷ leaves) = (if holds w p.0 then with_cell spot p.1 cells ∷ [] else [])
     ++ with_each w spot cells leaves
 
--- the fields that a write names
+-- The fields that a write names.
 abbrev pub named_by : List Entity → ℕ → (ℕ → Bool) → Named → ℕ → Bool
 named_by models m w Every = every_field
 named_by models m w (Set sets) = is_put (sets_at w sets.now)
 named_by models m w (From first) = is_guarded_from models m first
 
--- a label hides, where there is one
+-- Whether there is a label, and it is hidden.
 abbrev pub hides : (ℕ → Bool) → Option ℕ → Bool
 hides w None = false
 hides w (Some label) = not (w label)
 
--- the guard holds where the path condition does and the record is kept; without a guard that is
--- nowhere
+-- The guard holds if the path condition holds and the record is kept. If there is no guard, the two
+-- never hold together.
 abbrev pub IsKeptUnder : ((ℕ → Bool) → Bool) → List (ℕ × Bool) → Option (List (ℕ × Bool)) → Type 0
 IsKeptUnder kept pc None = (w : ℕ → Bool) → (holds w pc && kept w) ≡ false
 IsKeptUnder kept pc (Some guard) = (w : ℕ → Bool) → holds w guard ≡ (holds w pc && kept w)
 
--- what is stored of a cell of a draft
+-- The cell that is stored for a cell of a draft.
 abbrev pub stored_at : List Entity → (ℕ → Bool) → ℕ → ℕ → (ℕ → Bool) → List Value → ℕ → Value
     → Value
 stored_at models w m id named draft f cell = if named f && is_hidden models w m id f

@@ -1,4 +1,4 @@
-//! The alternatives of a record, parted by a guard.
+//! Splits the alternatives of a record by a guard.
 ghost use Rattle.std.specs.Prelude.{◌≡◌, ℕ, Bool, [], ◌∷◌, ◌++◌, if◌then◌else◌, All, IfOk, OnOk};
 ghost use Rattle.jac_rows.specs.declared.row.Row.{Row as Seen};
 ghost use Rattle.jac_world.specs.World.{holds};
@@ -9,7 +9,7 @@ use jac_value::{Cells, Id, Memory};
 use jac_world::Guard;
 use std::alloc::Global;
 
-/// The alternatives where the guard doesn't hold, as rows of the record.
+/// The alternatives where the guard doesn't hold, with this id.
 #[tactic(auto, using(crate::proofs::CellsLaws::outside_is))]
 pub(crate) fn outside(
     alloc: Global,
@@ -46,7 +46,7 @@ fn add_outside(
     Ok(())
 }
 
-// Adds an alternative under each of the guards.
+// Adds an alternative for each of the guards.
 fn add_parts(
     alloc: Global,
     guards: Vec<Guard>,
@@ -65,7 +65,7 @@ fn add_parts(
     Ok(())
 }
 
-/// Adds an alternative of the record.
+/// Adds an alternative of the record, with a copy of the cells.
 pub(crate) fn add_row(
     alloc: Global,
     guard: Guard,
@@ -83,7 +83,7 @@ pub(crate) fn add_row(
     Ok(())
 }
 
-/// Puts an alternative of the record after the others.
+/// Adds an alternative of the record.
 #[tactic(auto, using(crate::proofs::CellsLaws::cells_pushed))]
 pub(crate) fn put_row(id: Id, guard: Guard, cells: Cells, out: &mut Vec<Row>) -> Result<(), Memory>
     requires { All (λ (r : Seen). r.id ≡ id) out.old.items }
@@ -95,7 +95,7 @@ pub(crate) fn put_row(id: Id, guard: Guard, cells: Cells, out: &mut Vec<Row>) ->
     Ok(())
 }
 
-/// Puts these alternatives after the others, as alternatives of the record.
+/// Adds these alternatives, with this id.
 #[tactic(auto, using(crate::proofs::CellsLaws::one_by_one_is))]
 pub(crate) fn put_rows(id: Id, rows: Vec<Row>, out: &mut Vec<Row>) -> Result<(), Memory>
     requires { All (λ (r : Seen). r.id ≡ id) out.old.items }
@@ -114,7 +114,7 @@ pub(crate) fn put_rows(id: Id, rows: Vec<Row>, out: &mut Vec<Row>) -> Result<(),
     Ok(())
 }
 
-/// The alternatives where the guard holds too, as rows of the record.
+/// The alternatives where the guard holds too, with this id.
 #[tactic(auto, using(crate::proofs::CellsLaws::within_is))]
 pub(crate) fn within(alloc: Global, guard: &Guard, id: Id, rows: &[Row]) -> Result<Vec<Row>, Memory>
     ensures own { IfOk result (λ v. All (λ (r : Seen). r.id ≡ id) v.items) }

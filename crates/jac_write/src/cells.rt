@@ -1,4 +1,4 @@
-//! A faceted value put into the cells of alternatives.
+//! Puts a faceted value into the cells of alternatives.
 ghost use Rattle.std.specs.Prelude.{◌≡◌, ◌++◌, ◌∷◌, [], ℕ, Bool, slice_set, map, if◌then◌else◌, All, IfOk, OnOk};
 ghost use Rattle.jac_facet.specs.Shape.{at};
 ghost use Rattle.jac_rows.specs.declared.row.Row.{Row as Seen};
@@ -13,7 +13,7 @@ use jac_value::{Cells, Id, Memory, Value};
 use jac_world::Guard;
 use std::alloc::Global;
 
-/// Where a value goes among the cells of a record.
+/// The place of a value among the cells of a record.
 #[derive(Clone, Copy)]
 pub(crate) enum Spot {
     /// After the last cell.
@@ -22,8 +22,8 @@ pub(crate) enum Spot {
     At(u8),
 }
 
-/// The alternatives with what the facet shows in this spot: each as often as there are values under
-/// its guard.
+/// The alternatives with what the facet shows in this spot. The result has an alternative once for
+/// each value of the facet under its guard.
 #[tactic(auto, using(crate::proofs::DraftLaws::each_row_mapped))]
 pub(crate) fn with_facet(
     alloc: Global,
@@ -123,7 +123,7 @@ fn pushed(cells: Vec<Value>, value: Value) -> Result<Cells, Memory>
     Ok(Cells::from_vec(cells))
 }
 
-// Cells without the field stay as they are.
+// If there is no such field, the cells stay the same.
 fn replaced(cells: Vec<Value>, field: u8, value: Value) -> Cells
     ensures { result ≡ slice_set cells.items field value }
 {

@@ -1,4 +1,4 @@
-//! Records changed under a path condition.
+//! Changes records under a path condition.
 ghost use Rattle.std.specs.Prelude.{◌≡◌, ◌<◌, ℕ, Bool, true, length, map, slice_set, if◌then◌else◌, All, IfOk, OnOk, IsTrue};
 ghost use Rattle.jac_facet.specs.Shape.{Shape, at};
 ghost use Rattle.jac_value.specs.Ids.{is_id_of};
@@ -28,8 +28,7 @@ use jac_world::{Guard, Steps};
 use std::alloc::Global;
 use std::sync::ledger::Ledger;
 
-// The alternatives of a record: outside of the guard as they were, and within as they are stored
-// with the sets put in.
+// The alternatives of a record after the sets. Where the guard doesn't hold, they are the old ones.
 fn remade_rows<L: Ledger>(
     alloc: Global,
     subject: &Subject<'_>,
@@ -103,7 +102,7 @@ fn update_alternatives<K: Keeper, L: Ledger>(
     Ok(())
 }
 
-// Changes the record where the guard holds; nothing where the id is none of the model.
+// Changes the record where the guard holds. If the id isn't one of the model, nothing is done.
 fn update_record<K: Keeper, L: Ledger>(
     work: &mut Work<'_, K>,
     app: &App,
@@ -137,7 +136,7 @@ fn update_record<K: Keeper, L: Ledger>(
     Ok(())
 }
 
-// Changes the record that the value refers to where the guard holds.
+// Changes the record that the value refers to, where the guard holds.
 fn update_where<K: Keeper, L: Ledger>(
     work: &mut Work<'_, K>,
     app: &App,
@@ -198,8 +197,8 @@ fn update_leaves<K: Keeper, L: Ledger>(
     Ok(())
 }
 
-/// Changes the cells of the record that the target refers to, wherever the path condition holds.
-/// Nothing happens where the target is no record of the model, or one that isn't there.
+/// Changes the cells of the record that the target refers to, wherever the path condition holds. If
+/// the target isn't a record of the model, or doesn't exist, nothing is done.
 pub fn update<K: Keeper, L: Ledger>(
     work: &mut Work<'_, K>,
     app: &App,

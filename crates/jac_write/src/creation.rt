@@ -1,4 +1,4 @@
-//! Records made under a path condition.
+//! Creates records under a path condition.
 ghost use Rattle.std.specs.Prelude.{◌≡◌, ◌<◌, ◌++◌, ◌∷◌, [], ℕ, Bool, true, length, if◌then◌else◌, All, IfOk, OnOk, IsTrue};
 ghost use Rattle.jac_value.specs.Ids.{is_id_of, model_of_id};
 ghost use Rattle.jac_lang.specs.Lookup.{fields_at};
@@ -26,7 +26,7 @@ use jac_world::{Guard, Steps};
 use std::alloc::Global;
 use std::sync::ledger::Ledger;
 
-// The alternatives of a new record, after those that stand.
+// The existing alternatives, followed by those of the new record.
 fn with_new_record<L: Ledger>(
     alloc: Global,
     subject: &Subject<'_>,
@@ -53,7 +53,7 @@ fn with_new_record<L: Ledger>(
     Ok(rows)
 }
 
-// Makes a record wherever the guard holds.
+// Creates a record wherever the guard holds.
 fn make_under<K: Keeper, L: Ledger>(
     work: &mut Work<'_, K>,
     app: &App,
@@ -91,9 +91,9 @@ fn make_under<K: Keeper, L: Ledger>(
     Ok(())
 }
 
-/// Makes a record wherever the path condition holds, with one cell for each field of its model. A
-/// cell of another kind than its field's counts as the default of that kind. Where a group hides
-/// the model's records, the record is made only where its label for that group is shown.
+/// Creates a record wherever the path condition holds. There is one cell for each field of the
+/// model. A cell of another kind becomes the default of the field's kind. If a group hides the
+/// model's records, the record is created only where its label for that group is shown.
 pub fn create<K: Keeper, L: Ledger>(
     work: &mut Work<'_, K>,
     app: &App,

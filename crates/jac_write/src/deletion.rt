@@ -1,4 +1,4 @@
-//! Records taken away under a path condition.
+//! Deletes records under a path condition.
 ghost use Rattle.std.specs.Prelude.{◌<◌, length, slice_set, OnOk, IsTrue};
 ghost use Rattle.jac_value.specs.Ids.{model_of_id};
 ghost use Rattle.jac_facet.specs.Shape.{at};
@@ -14,7 +14,7 @@ use jac_keep::{Keeper, Stop, Work, sound_after_change};
 use jac_value::{Id, Value, id_model};
 use jac_world::Guard;
 
-// Takes the alternatives of a record away where the guard holds.
+// Deletes the alternatives of a record where the guard holds.
 fn delete_alternatives<K: Keeper>(work: &mut Work<'_, K>, guard: &Guard, id: Id) -> Result<(), Stop>
     requires attached { IsTrue (K.seen work.old.keeper.now).store.attached }
     requires a_table { IsTrue (K.seen work.old.keeper.now).tells
@@ -39,7 +39,7 @@ fn delete_alternatives<K: Keeper>(work: &mut Work<'_, K>, guard: &Guard, id: Id)
     Ok(())
 }
 
-// Takes the record away where the guard holds; nothing where it is none of the model.
+// Deletes the record where the guard holds. If the id isn't one of the model, nothing is done.
 fn delete_record<K: Keeper>(
     work: &mut Work<'_, K>,
     guard: &Guard,
@@ -64,7 +64,7 @@ fn delete_record<K: Keeper>(
     Ok(())
 }
 
-// Takes the record that the value refers to away where the guard holds.
+// Deletes the record that the value refers to, where the guard holds.
 fn delete_where<K: Keeper>(
     work: &mut Work<'_, K>,
     guard: &Guard,
@@ -113,8 +113,8 @@ fn delete_leaves<K: Keeper>(
     Ok(())
 }
 
-/// Takes the record that the target refers to away, wherever the path condition holds. Nothing
-/// happens where the target is no record of the model, or one that isn't there.
+/// Deletes the record that the target refers to, wherever the path condition holds. If the target
+/// isn't a record of the model, or doesn't exist, nothing is done.
 pub fn delete<K: Keeper>(
     work: &mut Work<'_, K>,
     pc: &Guard,

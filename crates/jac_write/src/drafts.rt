@@ -1,4 +1,4 @@
-//! Drafts of a record: its cells before the groups of its fields part them.
+//! Drafts of a record: its cells before the labels of its groups split them.
 ghost use Rattle.std.specs.Prelude.{◌≡◌, ◌<◌, ◌∷◌, [], ℕ, Bool, length, map, if◌then◌else◌, All, IfOk};
 ghost use Rattle.jac_facet.specs.Shape.{Shape, at};
 ghost use Rattle.jac_expr.specs.Tupled.{all_at};
@@ -23,7 +23,7 @@ use jac_world::{Guard, Steps};
 use std::alloc::Global;
 use std::sync::ledger::Ledger;
 
-/// A record without cells where the guard holds.
+/// A record without cells, under the guard.
 pub(crate) fn without_cells(alloc: Global, id: Id, guard: &Guard) -> Result<Vec<Row>, Memory>
     ensures own { IfOk result (λ v. All (λ (r : Seen). r.id ≡ id) v.items) }
     ensures shown { IfOk result (λ v. (w : ℕ → Bool) → cells_at w v.items ≡ (if holds w guard.now
@@ -42,7 +42,7 @@ fn fitted_copy(alloc: Global, kind: &Kind, value: &Value) -> Result<Value, Memor
     Ok(fitted(alloc, kind, value))
 }
 
-// What the facet shows, as a field of the kind holds it.
+// What the facet shows. A value of another kind becomes the default of the kind.
 fn fitted_facet<L: Ledger>(
     alloc: Global,
     kind: Kind,
@@ -55,7 +55,7 @@ fn fitted_facet<L: Ledger>(
     Ok(fitted)
 }
 
-// The alternatives with what the facet shows in this spot, as the field holds it.
+// The alternatives with what the facet shows in this spot, as the field stores it.
 fn with_field<L: Ledger>(
     alloc: Global,
     subject: &Subject<'_>,
@@ -83,7 +83,7 @@ fn with_field<L: Ledger>(
     Ok(rows)
 }
 
-/// The cells of a new record, for each field what its facet shows where the guard holds.
+/// The cells of a new record under the guard. Each field has what its facet shows.
 pub(crate) fn new_drafts<L: Ledger>(
     alloc: Global,
     subject: &Subject<'_>,
@@ -109,7 +109,7 @@ pub(crate) fn new_drafts<L: Ledger>(
     Ok(drafts)
 }
 
-/// The alternatives with the sets put in, one after another.
+/// The alternatives after the sets, one after another.
 pub(crate) fn with_sets<L: Ledger>(
     alloc: Global,
     subject: &Subject<'_>,

@@ -1,4 +1,4 @@
-//! Values that a field holds.
+//! Values that a field can store.
 ghost use Rattle.std.specs.Prelude.{◌≡◌};
 ghost use Rattle.jac_value.specs.Values.{has_kind};
 ghost use Rattle.jac_plain.specs.Records.{fitting};
@@ -6,7 +6,7 @@ ghost use Rattle.jac_plain.specs.Records.{fitting};
 use jac_value::{Kind, Value, default_of, is_id};
 use std::alloc::Global;
 
-/// The value, or the default of the kind for a value of another.
+/// The value, if it is of the kind. Otherwise the default of the kind.
 pub(crate) fn fitted(alloc: Global, kind: &Kind, value: Value) -> Value
     ensures { result ≡ fitting kind.now value }
 {

@@ -1,4 +1,4 @@
-//! Records of a model that has got groups.
+//! Records of a model that gets new groups.
 ghost use Rattle.std.specs.Prelude.{◌≡◌, ◌<◌, ◌≤◌, ℕ, Bool, true, not, length, if◌then◌else◌, [], All, IfOk};
 ghost use Rattle.jac_lang.specs.Mirror.{application_of};
 ghost use Rattle.jac_row_merge.specs.Merged.{AreMerged};
@@ -22,9 +22,9 @@ use jac_world::{Guard, Label, Steps};
 use std::alloc::Global;
 use std::sync::ledger::Ledger;
 
-/// The alternatives of a record, from drafts of it, where the groups of its model from this one on
-/// are new to it: the fields that these guard have their public values over the draft where the
-/// label isn't shown, and the record is nowhere but where the label of the one that hides it is.
+/// The alternatives of a record from its drafts, if the groups of its model from this one on are
+/// new. A field that one of these groups guards has its public value over the draft where the label
+/// is hidden. If one of them hides the records, the record exists only where its label is shown.
 pub fn regrouped<L: Ledger>(
     alloc: Global,
     app: &App,
@@ -70,8 +70,8 @@ fn staying_guard(alloc: Global, app: &App, model: u8, id: Id, first: u8) -> Resu
     Ok(guard)
 }
 
-// The label that hides the record, where the group that hides the records of its model is this one
-// or comes later.
+// The label that hides the record, if the group that hides the records of its model is this one or
+// comes later.
 fn new_hiding_label(app: &App, model: u8, id: Id, first: u8) -> Option<Label>
     requires model { model < length app.now.models }
     requires id { is_id_of id model ≡ true }
@@ -88,7 +88,7 @@ fn new_hiding_label(app: &App, model: u8, id: Id, first: u8) -> Option<Label>
     }
 }
 
-// The guard that holds where the label is shown, if there is one, and else everywhere.
+// The guard that holds where the label is shown. If there is no label, it holds everywhere.
 fn shown_guard(alloc: Global, label: Option<Label>) -> Result<Guard, Memory>
     ensures { IfOk result (λ g. (w : ℕ → Bool) → holds w g ≡ not (hides w label)) }
 {

@@ -1,4 +1,4 @@
-//! Where a new record is kept: nowhere but where the label of the group that hides its records is
+//! Where a new record is kept: if a group hides its records, only where the label of this group is
 //! shown.
 ghost use Rattle.std.specs.Prelude.{◌≡◌, ◌<◌, ℕ, Bool, true, not, length, IfOk};
 ghost use Rattle.jac_value.specs.Ids.{is_id_of, model_of_id};
@@ -12,8 +12,8 @@ use jac_value::{Id, Memory, id_model, label_number};
 use jac_world::{Guard, Label};
 use std::alloc::Global;
 
-/// The guard under which a new record is made: the path condition and the label of the group that
-/// hides its records, if they ever hold together; or the path condition, where no group does.
+/// The guard of a new record. If a group hides its records, the path condition together with the
+/// label, or `None` if they contradict each other. Otherwise the path condition.
 pub(crate) fn kept_under(
     alloc: Global,
     app: &App,
@@ -37,7 +37,7 @@ pub(crate) fn kept_under(
     }
 }
 
-// The label that hides the record, where a group hides the records of its model.
+// The label that hides the record, if a group hides the records of its model.
 fn hiding_label(app: &App, id: Id) -> Option<Label>
     requires model { model_of_id id < length app.now.models }
     requires id { is_id_of id (model_of_id id) ≡ true }

@@ -1,4 +1,4 @@
-//! Writes under a path condition, for all assignments at once.
+//! Creates, updates and deletes records under a path condition, for all assignments at once.
 #![tactic(auto)]
 
 mod alternatives;

@@ -1,4 +1,4 @@
-//! Alternatives of a record as they are stored.
+//! The alternatives of a record as they are stored.
 ghost use Rattle.std.specs.Prelude.{◌≡◌, ◌≤◌, ℕ, Bool, length, All, IfOk};
 ghost use Rattle.jac_row_merge.specs.Merged.{AreMerged};
 ghost use Rattle.jac_rows.specs.declared.row.Row.{Row as Seen};
@@ -9,8 +9,8 @@ use jac_rows::{Row, Rows};
 use jac_value::Memory;
 use std::alloc::Global;
 
-/// The alternatives with those joined that have equal cells and guards that differ in one label's
-/// sign alone.
+/// Joins alternatives that have equal cells and have guards that differ only in the sign of one
+/// label.
 pub(crate) fn merged_rows(alloc: Global, rows: Vec<Row>) -> Result<Rows, Memory>
     ensures own { IfOk result (λ m. (id : ℕ) → All (λ (r : Seen). r.id ≡ id) rows.items
         → All (λ (r : Seen). r.id ≡ id) m) }

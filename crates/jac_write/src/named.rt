@@ -11,8 +11,8 @@ use jac_facet::Facet;
 use jac_lang::{App, group_of};
 use jac_value::Value;
 
-/// What a write names: each field of a new record, the fields of its sets, or the fields that the
-/// groups of the model from one on guard.
+/// The fields that a write names: every field of a new record, the fields of its sets, or the
+/// fields guarded by the groups from this one on.
 #[derive(Clone, Copy)]
 pub(crate) enum Named<'s> {
     Every,

@@ -1,4 +1,4 @@
-//! What a field shows where its group is hidden.
+//! The public values of fields, for where their groups are hidden.
 ghost use Rattle.std.specs.Prelude.{◌≡◌, ◌<◌, ◌+◌, [], ℕ, Bool, true, length, slice_get, unwrap_or, Some, None, IfOk, IsTrue};
 ghost use Rattle.jac_value.specs.Ids.{is_id_of, number_of_id};
 ghost use Rattle.jac_value.specs.Values.{default_value};
@@ -23,7 +23,7 @@ use jac_world::{Assignment, Guard, Steps};
 use std::alloc::Global;
 use std::sync::ledger::Ledger;
 
-// The cell of the field, or the default where the record has none.
+// The cell of the field. If the record has none, the default.
 fn cell_at(alloc: Global, app: &App, model: u8, cells: &Cells, field: u8) -> Result<Value, Memory>
     requires model { model < length app.now.models }
     requires field { field < length (fields_at (application_of app.now).models model) }
@@ -40,7 +40,7 @@ fn cell_at(alloc: Global, app: &App, model: u8, cells: &Cells, field: u8) -> Res
     }
 }
 
-// The tables with this row of the model and no other.
+// The tables with this row of the model, and no other.
 fn tables_alone(alloc: Global, model: u8, row: Row) -> Result<Tables, Memory>
     ensures { IfOk result (λ ts. ts ≡ only model row) }
 {
@@ -56,10 +56,10 @@ fn tables_alone(alloc: Global, model: u8, row: Row) -> Result<Tables, Memory>
     Ok(Tables::from_vec(tables))
 }
 
-// A wide id is a multiple of this and a narrow id.
+// A wide id modulo this number is a narrow id.
 const NARROW_IDS_END: u128 = 1 << 52;
 
-// The number after that of the request that made the record.
+// The number of the request that made the record, plus 1.
 fn next_number(id: Id, model: u8) -> u64
     requires { is_id_of id model ≡ true }
     ensures { result ≡ number_of_id id + 1 }
@@ -68,7 +68,7 @@ fn next_number(id: Id, model: u8) -> u64
     (id.0 % NARROW_IDS_END / 4096) as u64 + 1
 }
 
-// The state in which a record stands alone, for everybody.
+// The state with this record only, without guards.
 fn state_alone(alloc: Global, model: u8, id: Id, cells: &Cells) -> Result<State, Memory>
     requires { is_id_of id model ≡ true }
     ensures sound { IfOk result IsSound }
@@ -88,7 +88,7 @@ fn state_alone(alloc: Global, model: u8, id: Id, cells: &Cells) -> Result<State,
     })
 }
 
-// What is asked of a record, with nobody who asks.
+// The context of a public expression: the record is `this`, and there is no viewer.
 fn asked_of(id: Id) -> Ctx
     ensures { result ≡ record { viewer = None; this = Some id; number = 0; around = None } }
 {
@@ -100,7 +100,7 @@ fn asked_of(id: Id) -> Ctx
     }
 }
 
-// The value of an expression over what the keeper keeps, where no label is shown.
+// The value of an expression over the keeper's state, if no label is shown.
 fn value_in<L: Ledger>(
     alloc: Global,
     keeper: &mut MemoryKeeper,
@@ -133,7 +133,7 @@ fn value_in<L: Ledger>(
     Ok(value)
 }
 
-// The value of an expression over a record that stands alone.
+// The value of an expression over a state with this record only.
 fn value_alone<L: Ledger>(
     alloc: Global,
     app: &App,
@@ -151,13 +151,13 @@ fn value_alone<L: Ledger>(
     let mut keeper = MemoryKeeper::attached(state, Calls::empty(alloc), Calls::empty(alloc));
     match value_in(alloc, &mut keeper, app, id, e, splits) {
         Ok(value) => Ok(value),
-        // No call of this keeper is to fail.
+        // No call of this keeper is listed to fail. So it was out of memory.
         Err(_) => Err(Memory),
     }
 }
 
-/// What the field of a record with these cells shows where its group is hidden: its public
-/// expression over the cells; or the cell, where no group guards it.
+/// The public value of the field: the value of its public expression over these cells. If no group
+/// guards the field, its cell.
 pub fn public_value<L: Ledger>(
     alloc: Global,
     app: &App,

@@ -32,7 +32,7 @@ fn expression_in(app: &App, model: u8, place: u8, field: u8) -> Option<&Expr>
     expression_at(groups_of_model(app, model), place, &field.name)
 }
 
-/// How many fields the model has.
+/// The number of fields of the model.
 pub(crate) fn field_count(app: &App, model: u8) -> u8
     requires { model < length app.now.models }
     ensures { result ≡ length (fields_at (application_of app.now).models model) }
@@ -40,7 +40,7 @@ pub(crate) fn field_count(app: &App, model: u8) -> u8
     fields_of(app, model).len() as u8
 }
 
-/// The number of the group of the model that guards the field: one of at most 8.
+/// The place of the group of the model that guards the field. It is less than 8.
 pub(crate) fn guarding_group(app: &App, model: u8, field: u8) -> Option<u8>
     requires model { model < length app.now.models }
     requires field { field < length (fields_at (application_of app.now).models model) }
@@ -48,18 +48,18 @@ pub(crate) fn guarding_group(app: &App, model: u8, field: u8) -> Option<u8>
         in result ≡ group_in (groups_at models model) (fields_at models model) field }
     ensures few { IfSome result (λ g. g < 8) }
 {
-    // The list of the groups tells how many there can be.
+    // The contract of the list of groups says how many there can be.
     let _ = groups_of_model(app, model);
     group_of(app, model, field)
 }
 
-/// The number of the group that hides the records of the model: one of at most 8.
+/// The place of the group that hides the records of the model. It is less than 8.
 pub(crate) fn group_that_hides(app: &App, model: u8) -> Option<u8>
     requires { model < length app.now.models }
     ensures group { result ≡ hiding_place (groups_at (application_of app.now).models model) }
     ensures few { IfSome result (λ g. g < 8) }
 {
-    // The list of the groups tells how many there can be.
+    // The contract of the list of groups says how many there can be.
     let _ = groups_of_model(app, model);
     hiding_group(app, model)
 }

@@ -23,7 +23,7 @@ use jac_world::{Label, Steps};
 use std::alloc::Global;
 use std::sync::ledger::Ledger;
 
-// The label of the group that guards the field.
+// The label of the group that guards the field, if there is one.
 fn label_of_field(subject: &Subject<'_>, field: u8) -> Option<Label>
     requires model { subject.now.model < length subject.now.app.now.models }
     requires field { field < length (fields_at (models_for subject.now) subject.now.model) }
@@ -37,7 +37,7 @@ fn label_of_field(subject: &Subject<'_>, field: u8) -> Option<Label>
     }
 }
 
-// The label that hides the field, where the write names it and a group guards it.
+// The label that hides the field, if the write names the field and a group guards it.
 fn label_if_named(subject: &Subject<'_>, named: Named<'_>, field: u8) -> Option<Label>
     requires model { subject.now.model < length subject.now.app.now.models }
     requires field { field < length (fields_at (models_for subject.now) subject.now.model) }
@@ -85,8 +85,8 @@ fn parted_cell<L: Ledger>(
     Ok(parted)
 }
 
-// What is stored of a field of a draft. Here alone the label of a group comes into the cells of a
-// record.
+// The facet that is stored for a field of a draft. Only this function puts the labels of groups
+// into the cells of a record.
 #[tactic(auto, using(crate::proofs::DraftLaws::parted_at))]
 fn stored_field<L: Ledger>(
     alloc: Global,
@@ -117,7 +117,7 @@ fn stored_field<L: Ledger>(
     }
 }
 
-// What is stored of a cell of a draft. One after the fields of the model stays as it is.
+// The facet that is stored for a cell of a draft. A cell after the model's fields stays the same.
 #[tactic(auto, using(crate::proofs::SchemaLaws::past_stored))]
 fn stored_cell<L: Ledger>(
     alloc: Global,
@@ -144,7 +144,7 @@ fn stored_cell<L: Ledger>(
     Ok(Facet::leaf(cell))
 }
 
-// The draft as it is stored: one alternative for each way in which its groups are shown and hidden.
+// The draft as it is stored: an alternative for each combination of shown and hidden groups.
 #[tactic(auto, using(crate::proofs::DraftLaws::stored_begun))]
 fn stored_draft<L: Ledger>(
     alloc: Global,
@@ -194,8 +194,8 @@ fn add_stored_draft<L: Ledger>(
     Ok(())
 }
 
-/// Adds the drafts as they are stored: where the group of a named field is hidden, it has its
-/// public value over the draft.
+/// Adds the drafts as they are stored. Where the group of a named field is hidden, the field has
+/// its public value over the draft.
 #[tactic(auto, using(crate::proofs::DraftLaws::each_row_mapped))]
 pub(crate) fn add_stored<L: Ledger>(
     alloc: Global,

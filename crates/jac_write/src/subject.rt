@@ -1,7 +1,7 @@
 use jac_lang::App;
 use jac_value::Id;
 
-/// The record that is written: of which application and model, and which one.
+/// The record that a write is about: its application, its model, and its id.
 #[derive(Clone, Copy)]
 pub(crate) struct Subject<'s> {
     pub(crate) app: &'s App,
