@@ -57,7 +57,7 @@ SEND = '''((end, fields) => {
 PRESS = '''((end, text) => Array.from(document.querySelectorAll(`form[action$="${end}"] button`))
   .find((button) => button.textContent === text).click())(%s, %s)'''
 FOLLOW = 'Array.from(document.links).find((link) => link.text === %s).click()'
-TEXT = 'document.body.innerText'
+TEXT = 'document.body && document.body.innerText'
 WIDTH = 'document.documentElement.scrollWidth'
 
 
@@ -155,7 +155,18 @@ class Page:
         self.browser.event(self.session, 'Page.loadEventFired')
         self.seconds = time.monotonic() - began
         self.picture()
-        return status, self.run(TEXT)
+        return status, self.text()
+
+    def text(self):
+        """Returns the page's text. A page without a body is loading itself again, as those of `./jac dev` do."""
+        ends = time.monotonic() + WAIT
+        while True:
+            text = self.run(TEXT)
+            if text is not None:
+                return text
+            if time.monotonic() > ends:
+                raise Broken('a page has no body')
+            time.sleep(0.05)
 
     def picture(self):
         if PICTURES:
