@@ -21,7 +21,7 @@ use std::alloc::Global;
 // itself.
 const FEW: usize = 8;
 
-const SPARSE: usize = 4;
+const SPARSE: usize = 16;
 
 /// Whether there are enough ids to read their table as a whole.
 pub(crate) fn are_many(ids: &[Id]) -> bool {
