@@ -15,6 +15,7 @@ ghost use Rattle.jac_shown_rows.specs.Own.{IsOwn, are_own_rows, stands_own};
 ghost use Rattle.jac_plain.specs.Shown.{world_at};
 
 use crate::Support;
+use crate::lookup::look_once;
 use crate::reading::shown_row;
 use jac_keep::{Keeper, Stop, Work};
 use jac_rows::Row;
@@ -67,7 +68,7 @@ pub fn record_stands<K: Keeper>(
         → are_own_rows this id (rows_of (state_of K.seen work.old).tables (model_of_id id)) ≡ true
         → IsOwn this support.old → OnOk result (IsOwn this support.new) }
 {
-    if let Some(near) = work.look(id)? {
+    if let Some(near) = look_once(work, id, support)? {
         if let Some(rows) = work.looked(id, near) {
             let found = has_row(work.alloc, rows, a, id, support)?;
             return Ok(found);

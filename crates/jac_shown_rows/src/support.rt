@@ -4,7 +4,9 @@ ghost use Rattle.jac_world.specs.World.{shown_by, holds, names, IsAscending};
 ghost use Rattle.jac_shown_rows.specs.Consulted.{Agrees, Grows};
 ghost use Rattle.jac_shown_rows.specs.Own.{IsOwn, names_own};
 
-use jac_value::Memory;
+use crate::recent_places::RecentPlaces;
+use jac_keep::Place;
+use jac_value::{Id, Memory};
 use jac_world::{Assignment, Label, add_among, is_among};
 use std::alloc::Global;
 use std::marker::Model;
@@ -21,6 +23,8 @@ pub struct Support {
     last: usize,
     // The place, in an assignment, of the label that was found last.
     near: usize,
+    // Where the rows of records were found.
+    recent: RecentPlaces,
 }
 
 impl Model for Support {
@@ -42,6 +46,7 @@ impl Support {
             labels: Vec::new(alloc),
             last: 0,
             near: 0,
+            recent: RecentPlaces::none(),
         }
     }
 
@@ -66,6 +71,18 @@ impl Support {
         ensures grows { Grows self.old self.new }
     {
         add_near(&mut self.labels, label, &mut self.last)
+    }
+
+    /// Where the record's rows were found, if no other record of its model was looked up later.
+    pub fn place_of(&self, id: Id) -> Option<Place> {
+        self.recent.place_of(id)
+    }
+
+    /// Keeps where the record's rows were found. No answer depends on it.
+    pub fn keep_place(&mut self, id: Id, place: Place)
+        ensures { self.new ≡ self.old }
+    {
+        self.recent.keep(id, place);
     }
 
     // Whether the guard of these pairs holds.

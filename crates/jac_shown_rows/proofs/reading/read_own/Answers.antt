@@ -17,15 +17,15 @@ returns-in-Some-looked-clause-value g c told w agree =
     c.in_ok-cell.ensures.value w agree
     ∙ ap (λ o. cell_of o c.args.column.now.field (absent_in c.args.column.now))
     (record_of_alternatives w id (model_of_id id) (state_of seen c.args.work.now).tables c.in-Some-looked.rows.now
-    (lent_before seen c.args.work.now _ id c.in-Some-looked.rows.now c.in_ok-near.ensures.same told (c.in-Some-looked.ensures told)))
+    (lent_before seen c.args.work.now _ id c.in-Some-looked.rows.now c.in_ok-near.ensures.reads.same told (c.in-Some-looked.ensures told)))
 
 pub returns-in-Some-looked-clause-own : goal.returns-in-Some-looked-clause-own
 returns-in-Some-looked-clause-own g c told this own before =
     let id = c.args.id in
     let seen = g.K.Keeper.seen in
     c.in_ok-cell.ensures.own this
-    (ap (are_own_rows this id) (lent_before seen c.args.work.now _ id c.in-Some-looked.rows.now c.in_ok-near.ensures.same told (c.in-Some-looked.ensures told))
-    ∙ all_alternatives (is_own_row this id) id (rows_of (state_of seen c.args.work.now).tables (model_of_id id)) own) before
+    (ap (are_own_rows this id) (lent_before seen c.args.work.now _ id c.in-Some-looked.rows.now c.in_ok-near.ensures.reads.same told (c.in-Some-looked.ensures told))
+    ∙ all_alternatives (is_own_row this id) id (rows_of (state_of seen c.args.work.now).tables (model_of_id id)) own) (c.in_ok-near.ensures.own this before)
 
 pub returns-clause-value : goal.returns-clause-value
 returns-clause-value g c told w agree =
@@ -35,7 +35,7 @@ returns-clause-value g c told w agree =
     c.in_ok-cell-2.ensures.value w agree
     ∙ ap (λ o. cell_of o c.args.column.now.field (absent_in c.args.column.now))
     (record_of_alternatives w id (model_of_id id) (state_of seen c.args.work.now).tables c.as_slice.result.now
-    (c.as_slice.ensures ∙ lent_before seen c.args.work.now _ id c.in_ok-rows.rows c.in_ok-near.ensures.same (reads.same.told told) (c.in_ok-rows.ensures.exact told)))
+    (c.as_slice.ensures ∙ lent_before seen c.args.work.now _ id c.in_ok-rows.rows c.in_ok-near.ensures.reads.same (reads.same.told told) (c.in_ok-rows.ensures.exact told)))
 
 pub returns-clause-own : goal.returns-clause-own
 returns-clause-own g c told this own before =
@@ -43,5 +43,5 @@ returns-clause-own g c told this own before =
     let seen = g.K.Keeper.seen in
     let reads = c.in_ok-rows.ensures.reads in
     c.in_ok-cell-2.ensures.own this
-    (ap (are_own_rows this id) (c.as_slice.ensures ∙ lent_before seen c.args.work.now _ id c.in_ok-rows.rows c.in_ok-near.ensures.same (reads.same.told told) (c.in_ok-rows.ensures.exact told))
-    ∙ all_alternatives (is_own_row this id) id (rows_of (state_of seen c.args.work.now).tables (model_of_id id)) own) before
+    (ap (are_own_rows this id) (c.as_slice.ensures ∙ lent_before seen c.args.work.now _ id c.in_ok-rows.rows c.in_ok-near.ensures.reads.same (reads.same.told told) (c.in_ok-rows.ensures.exact told))
+    ∙ all_alternatives (is_own_row this id) id (rows_of (state_of seen c.args.work.now).tables (model_of_id id)) own) (c.in_ok-near.ensures.own this before)
