@@ -10,9 +10,9 @@ use Rattle.jac_lang.specs.Lookup.{same_text}
 use Rattle.jac_plain.specs.Expressions.{key_of, sorted_tuples}
 use Rattle.jac_plain.specs.World.{World, got}
 use Rattle.jac_query.specs.Sorted.{insert_by, sorted_by, value_less, key_less}
-use Rattle.jac_pruned.specs.OneSorted.{id_less, keyed_each}
+use Rattle.jac_pruned.specs.OneSorted.{id_less}
 use Rattle.jac_pruned.specs.Tupled.{keyed_by}
-use Rattle.jac_shown_rows.specs.RecordIds.{lengthened_tuples}
+use Rattle.jac_shown_rows.specs.RecordIds.{keyed_each, lengthened_tuples}
 use Rattle.jac_pruned.proofs.Keyed.{sorted-is}
 
 pub id-order : (down : Bool) → IsStrictWeakOrder (id_less down)
@@ -65,15 +65,7 @@ pub own_key : (w : World) (b : Binder) (name field : List ℕ) (j : ℕ) → sam
     key_of w (b ∷ []) name field (j ∷ []) ≡ got w b.model field (value.Ref (Some j))
 own_key w b name field j same = rw same refl
 
--- One more id has its key.
-pub each_more : (key : ℕ → Value) (done new : List (ℕ × Value)) (j : ℕ) (k : Value) (left rest all : List ℕ) →
-    left ≡ j ∷ rest → new ≡ done ++ (j, k) ∷ [] → k ≡ key j → done ++ keyed_each key left ≡ keyed_each key all → new ++ keyed_each key rest ≡ keyed_each key all
-each_more key done new j k left rest all first pushed is so_far =
-    ap (λ l. l ++ keyed_each key rest) pushed
-    ∙ append_assoc done ((j, k) ∷ []) (keyed_each key rest)
-    ∙ ap (λ v. done ++ (j, v) ∷ keyed_each key rest) is
-    ∙ ap (λ l. done ++ keyed_each key l) (sym first)
-    ∙ so_far
-
-pub each_all : (key : ℕ → Value) (done : List (ℕ × Value)) (left all : List ℕ) → left ≡ [] → done ++ keyed_each key left ≡ keyed_each key all → done ≡ keyed_each key all
-each_all key done left all none so_far = sym (append-nil done) ∙ ap (λ l. done ++ keyed_each key l) (sym none) ∙ so_far
+-- Two functions that give each id the same key.
+pub keyed_same : (f g : ℕ → Value) (js : List ℕ) → ((j : ℕ) → f j ≡ g j) → keyed_each f js ≡ keyed_each g js
+keyed_same f g [] h = refl
+keyed_same f g (j ∷ js) h = ap (λ v. (j, v) ∷ keyed_each f js) (h j) ∙ ap (λ l. (j, g j) ∷ l) (keyed_same f g js h)

@@ -1,5 +1,5 @@
 -- The records of one binder in the order of a field.
-use Rattle.std.specs.Prelude.{◌≡◌, ℕ, Bool, true, List, [], ◌∷◌, ⊤}
+use Rattle.std.specs.Prelude.{◌≡◌, ℕ, Bool, true, ⊤}
 use Rattle.jac_value.specs.declared.value.Value.{Value}
 use Rattle.jac_lang.specs.declared.queries.Binder.{Binder}
 use Rattle.jac_lang.specs.declared.queries.Order.{Order}
@@ -12,11 +12,6 @@ abbrev pub SortsBinder : Binder → Order → Type 0
 SortsBinder b orders.Key = ⊤
 SortsBinder b (orders.Up name field) = same_text b.name name ≡ true
 SortsBinder b (orders.Down name field) = same_text b.name name ≡ true
-
--- Each id with its key.
-abbrev pub keyed_each : (ℕ → Value) → List ℕ → List (ℕ × Value)
-keyed_each key [] = []
-keyed_each key (j ∷ js) = (j, key j) ∷ keyed_each key js
 
 -- The order of ids by their keys.
 abbrev pub id_less : Bool → ℕ × Value → ℕ × Value → Bool

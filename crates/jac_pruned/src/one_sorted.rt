@@ -1,26 +1,22 @@
 //! The records of one binder in the order of a field.
-ghost use Rattle.std.specs.Prelude.{◌≡◌, ◌<◌, [], ◌∷◌, ◌++◌, ℕ, Bool, true, List, Some, length, map, IfOk, IfSome, OnOk, IsTrue};
+ghost use Rattle.std.specs.Prelude.{◌≡◌, [], ◌∷◌, ℕ, Bool, true, List, Some, map, pos, IfOk, IsTrue};
 ghost use Rattle.jac_value.specs.declared.value.Value.TheVariants as value;
 ghost use Rattle.jac_world.specs.World.{shown_by};
-ghost use Rattle.jac_lang.specs.Lookup.{fields_at, same_text};
-ghost use Rattle.jac_lang.specs.Mirror.{application_of};
-ghost use Rattle.jac_rows.specs.Project.{project_at};
+ghost use Rattle.jac_lang.specs.Lookup.{same_text};
 ghost use Rattle.jac_keep.specs.WorkState.{state_of, IsTold, ReadsWork};
 ghost use Rattle.jac_plain.specs.Expressions.{key_of, ordered_tuples, sorted_tuples};
 ghost use Rattle.jac_plain.specs.World.{got};
 ghost use Rattle.jac_query.specs.Sorted.{sorted_by, value_less};
-ghost use Rattle.jac_shown_rows.specs.Columns.{column_got};
 ghost use Rattle.jac_shown_rows.specs.Consulted.{Agrees, Grows};
-ghost use Rattle.jac_pruned.specs.OneSorted.{SortsBinder, id_less, keyed_each};
+ghost use Rattle.jac_pruned.specs.OneSorted.{SortsBinder, id_less};
 ghost use Rattle.jac_shown_rows.specs.Seen.{seen_at};
-ghost use Rattle.jac_shown_rows.specs.RecordIds.{lengthened_tuples};
+ghost use Rattle.jac_shown_rows.specs.RecordIds.{keyed_each, lengthened_tuples};
 
 use crate::order::compare;
 use jac_keep::{Keeper, Stop, Work};
 use jac_lang::{Binder, Order};
-use jac_shown_rows::{Column, Support, WorldContext, column_named, read_of};
+use jac_shown_rows::{Support, WorldContext, column_named, keyed_by};
 use jac_value::{Id, Memory, Txt, Value};
-use jac_world::Assignment;
 use std::alloc::Global;
 
 /// Whether the order is that in which the records are found, or by a field of this binder.
@@ -109,41 +105,27 @@ fn keyed_ids<K: Keeper>(
     ensures reads { ReadsWork K.seen work.old work.new result }
     ensures grows { Grows support.old support.new }
 {
-    let column = column_named(at.app, model, field);
-    let mut keyed = Vec::with_capacity(work.alloc, ids.len())?;
-    'ids: for id in ids {
-        let key = key_in(work, at.assignment, &column, *id, support)?;
-        keyed.push((*id, key))?;
+    match column_named(at.app, model, field) {
+        Some(column) => {
+            let keyed = keyed_by(work, at.assignment, &column, ids, support)?;
+            Ok(keyed)
+        }
+        None => {
+            let keyed = keyed_alike(work.alloc, ids)?;
+            Ok(keyed)
+        }
     }
-    Ok(keyed)
 }
 
-// The cell of the record in the column, or 0 if there is no column.
-fn key_in<K: Keeper>(
-    work: &mut Work<'_, K>,
-    a: &Assignment,
-    column: &Option<Column<'_>>,
-    id: Id,
-    support: &mut Support,
-) -> Result<Value, Stop>
-    requires attached { IsTrue (K.seen work.old.keeper.now).store.attached }
-    requires model { IfSome column.now (λ c. c.model < length c.app.now.models) }
-    requires field { IfSome column.now (λ c. c.field < length
-        (fields_at (application_of c.app.now).models c.model)) }
-    ensures value { IsTold K.seen work.new → IfOk result (λ v. (w : ℕ → Bool)
-        → Agrees support.new (shown_by a.now) w
-        → v ≡ column_got (project_at w (state_of K.seen work.old)).tables column.now
-        (value.Ref (Some id))) }
-    ensures reads { ReadsWork K.seen work.old work.new result }
-    ensures grows { Grows support.old support.new }
+// Each id with 0.
+fn keyed_alike(alloc: Global, ids: &[Id]) -> Result<Vec<(Id, Value)>, Memory>
+    ensures { IfOk result (λ ps. ps.items ≡ keyed_each (λ j. value.Int (pos 0)) ids.now) }
 {
-    match column {
-        Some(column) => {
-            let key = read_of(work, a, column, id, support)?;
-            Ok(key)
-        }
-        None => Ok(Value::Int(0)),
+    let mut keyed = Vec::with_capacity(alloc, ids.len())?;
+    'ids: for id in ids {
+        keyed.push((*id, Value::Int(0)))?;
     }
+    Ok(keyed)
 }
 
 fn sort_keyed_ids(keyed: Vec<(Id, Value)>, down: bool) -> Result<Vec<(Id, Value)>, Memory>

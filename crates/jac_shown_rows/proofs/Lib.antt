@@ -1,6 +1,7 @@
 pub mod Compared
 pub mod Growing
 pub mod Joining
+pub mod KeyedIds
 pub mod Lent
 pub mod Names
 pub mod OwnRows

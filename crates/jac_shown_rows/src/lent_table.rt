@@ -1,17 +1,18 @@
 //! Records of one table that are read one after another, from its rows if these are lent.
-ghost use Rattle.std.specs.Prelude.{◌≡◌, ℕ, Bool, true, Option, unwrap_or, IfOk, OnOk};
+ghost use Rattle.std.specs.Prelude.{◌≡◌, ℕ, Bool, true, Option, unwrap_or, IfOk, OnOk, IsTrue};
 ghost use Rattle.std.specs.Option.{option_copied};
 ghost use Rattle.jac_value.specs.declared.value.Value.{Value as Cell};
 ghost use Rattle.jac_world.specs.World.{shown_by};
 ghost use Rattle.jac_rows.specs.Project.{rows_at};
 ghost use Rattle.jac_keep.specs.Records.{AreOrdered, alternatives};
+ghost use Rattle.jac_keep.specs.WorkState.{ReadsWork};
 ghost use Rattle.jac_plain.specs.World.{cell_of, record_with};
 ghost use Rattle.jac_shown_rows.specs.Consulted.{Agrees, Grows};
 ghost use Rattle.jac_shown_rows.specs.Own.{IsOwn, are_own_rows};
 
 use crate::Support;
 use crate::reading::shown_cell;
-use jac_keep::{Place, count_below, is_in_order, own_near};
+use jac_keep::{Keeper, Place, Stop, Work, count_below, is_in_order, own_near};
 use jac_rows::Row;
 use jac_value::{Id, Memory, Value};
 use jac_world::Assignment;
@@ -26,6 +27,21 @@ const SPARSE: usize = 16;
 /// Whether there are enough ids to read their table as a whole.
 pub(crate) fn are_many(ids: &[Id]) -> bool {
     ids.len() >= FEW
+}
+
+/// Whether the rows of the model are in memory, if they are wanted.
+pub(crate) fn look_if<K: Keeper>(
+    work: &mut Work<'_, K>,
+    model: u8,
+    wanted: bool,
+) -> Result<bool, Stop>
+    requires { IsTrue (K.seen work.old.keeper.now).store.attached }
+    ensures { ReadsWork K.seen work.old work.new result }
+{
+    if !wanted {
+        return Ok(false);
+    }
+    work.look_rows(model)
 }
 
 /// Whether the rows are ordered by rising id, and aren't too many for the number of ids.

@@ -1,39 +1,17 @@
-use Rattle.std.proofs.Common.{rules, ◌+◌, ◌∙◌, ap, refl, ℕ, Some, drop}
-use Rattle.std.proofs.lemmas.List.{drop_all}
+use Rattle.std.proofs.Common.{◌∙◌, ap, refl, ℕ, Some}
 use Rattle.jac_value.specs.declared.value.Value.{Value}
 use Rattle.jac_value.specs.declared.value.Value.TheVariants as value
-use Rattle.jac_rows.specs.declared.state.State.{State}
 use Rattle.jac_keep.specs.WorkState.{state_of}
-use Rattle.jac_plain.specs.World.{got}
 use Rattle.jac_shown_rows.specs.Seen.{seen_at}
-use Rattle.jac_shown_rows.proofs.Growing.{agrees_less, grows_then}
-use Rattle.jac_pruned.proofs.Once.{each_more, each_all}
-use Rattle.jac_shown_rows.proofs.Working.{next}
+use Rattle.jac_pruned.proofs.Once.{keyed_same}
 use Rattle.jac_pruned.proofs.one_sorted.keyed_ids.Goals as goal
 
-pub ids-preserved : goal.ids-preserved
-ids-preserved g c =
-    let before = c.ids.invariant in
-    let ids = c.args.ids.now in
-    let i = c.ids.id-index in
-    let id = c.id-item.result in
-    record {
-      grown = grows_then _ _ _ before.grown c.in_ok-key.ensures.grows;
-      read = record {
-        told = λ told w agree.
-            let before_told = c.in_ok-key.ensures.reads.same.told told in
-            let key : State → ℕ → Value = λ s j. got (seen_at c.args.at.now s w) c.args.model.now c.args.field.now (value.Ref (Some j)) in
-            each_more (key (state_of g.K.Keeper.seen c.args.work.now)) c.ids.keyed.items c.push.new.self.items id c.in_ok-key.key
-            (drop i ids) (drop (i + 1) ids) ids (next ids id i c.id-item.is c.ids-test.true) (search rules)
-            (c.in_ok-key.ensures.value told w agree
-            ∙ c.column_named-column.ensures.got (seen_at c.args.at.now (state_of g.K.Keeper.seen c.ids.work) w) refl (value.Ref (Some id))
-            ∙ ap (λ s. key s id) (before.read.same.same_state before_told))
-            (before.read.told before_told w (agrees_less _ _ _ _ c.in_ok-key.ensures.grows agree));
-        same = search rules;
-      };
-    }
+pub returns-in_ok-keyed-in-Some-clause-keys : goal.returns-in_ok-keyed-in-Some-clause-keys
+returns-in_ok-keyed-in-Some-clause-keys g c told w agree =
+    c.in_ok-keyed-in-Some.ensures.keys told w agree
+    ∙ keyed_same _ _ c.args.ids.now (λ j. c.in-Some.ensures.got (seen_at c.args.at.now (state_of g.K.Keeper.seen c.args.work.now) w) refl (value.Ref (Some j)))
 
-pub returns-clause-keys : goal.returns-clause-keys
-returns-clause-keys g c told w agree =
-    each_all (λ j. got (seen_at c.args.at.now (state_of g.K.Keeper.seen c.args.work.now) w) c.args.model.now c.args.field.now (value.Ref (Some j)))
-    c.ids.keyed.items (drop c.ids.id-index c.args.ids.now) c.args.ids.now (drop_all c.ids.id-index c.args.ids.now c.ids-test.false) (c.ids.invariant.read.told told w agree)
+pub returns-in_ok-keyed-in-None-clause-keys : goal.returns-in_ok-keyed-in-None-clause-keys
+returns-in_ok-keyed-in-None-clause-keys g c told w agree =
+    c.in_ok-keyed-in-None.ensures
+    ∙ keyed_same _ _ c.args.ids.now (λ j. c.in-None.ensures.got (seen_at c.args.at.now (state_of g.K.Keeper.seen c.args.work.now) w) refl (value.Ref (Some j)))
