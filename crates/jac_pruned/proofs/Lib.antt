@@ -2,6 +2,7 @@ pub mod Alone
 pub mod Beginning
 pub mod Bound
 pub mod Chosen
+pub mod Defaults
 pub mod Going
 pub mod Keyed
 pub mod Once
