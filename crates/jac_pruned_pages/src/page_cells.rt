@@ -20,7 +20,7 @@ use crate::page_buffer::PageBuffer;
 use jac_keep::{Keeper, Stop, Work};
 use jac_plain::Form;
 use jac_shown_rows::{
-    Column, Support, WorldContext, absent_of, column_named, read_one, shown_cell,
+    Column, Support, WorldContext, absent_of, column_named, look_once, read_one, shown_cell,
 };
 use jac_value::{Id, Memory, Txt, Value, id_model};
 use jac_world::Assignment;
@@ -146,7 +146,7 @@ fn add_own<K: Keeper>(
     ensures reads { ReadsWork K.seen work.old work.new result }
     ensures grows { Grows support.old support.new }
 {
-    if let Some(near) = work.look(id)? {
+    if let Some(near) = look_once(work, id, support)? {
         if let Some(rows) = work.looked(id, near) {
             let cell = shown_cell(work.alloc, rows, a, column.field, id, support)?;
             add_cell(work.alloc, column, form, cell, page)?;

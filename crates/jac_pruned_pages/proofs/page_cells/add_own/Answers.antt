@@ -19,7 +19,7 @@ returns-in-Some-looked-clause-piece g c told w agree =
     (c.in_ok-cell.ensures.value w agree absent
     ∙ ap (λ o. cell_of o c.args.column.now.field absent)
     (record_of_alternatives w id (model_of_id id) (state_of seen c.args.work.now).tables c.in-Some-looked.rows.now
-    (lent_before seen c.args.work.now _ id c.in-Some-looked.rows.now c.in_ok-near.ensures.same told (c.in-Some-looked.ensures told))))
+    (lent_before seen c.args.work.now _ id c.in-Some-looked.rows.now c.in_ok-near.ensures.reads.same told (c.in-Some-looked.ensures told))))
 
 pub returns-clause-piece : goal.returns-clause-piece
 returns-clause-piece g c told w agree =
@@ -32,4 +32,4 @@ returns-clause-piece g c told w agree =
     (c.in_ok-cell-2.ensures.value w agree absent
     ∙ ap (λ o. cell_of o c.args.column.now.field absent)
     (record_of_alternatives w id (model_of_id id) (state_of seen c.args.work.now).tables c.as_slice.result.now
-    (c.as_slice.ensures ∙ lent_before seen c.args.work.now _ id c.in_ok-rows.rows c.in_ok-near.ensures.same (reads.same.told told) (c.in_ok-rows.ensures.exact told))))
+    (c.as_slice.ensures ∙ lent_before seen c.args.work.now _ id c.in_ok-rows.rows c.in_ok-near.ensures.reads.same (reads.same.told told) (c.in_ok-rows.ensures.exact told))))
