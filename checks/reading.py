@@ -52,11 +52,11 @@ def first_sentence(text):
     return words[:1].upper() + words[1:]
 
 
-def brief(sentence):
-    """Returns the sentence up to its first colon, if that is four words or more and so says by itself what a file is
-    about."""
+def brief(sentence, name):
+    """Returns the sentence up to its first colon, if that says by itself what the file is about: it has four words or
+    more, and doesn't begin with the file's name."""
     before = sentence.partition(': ')[0]
-    return before if len(before.split()) >= 4 else sentence
+    return before if len(before.split()) >= 4 and not before.startswith(name) else sentence
 
 
 class Item:
@@ -279,7 +279,7 @@ def definitions_list(start, seen):
         if isinstance(place, Specs):
             count = sum(1 for name in place.items if name in reached[place])
             of = '' if count == len(place.items) else '/%d' % len(place.items)
-            lines.append('- %s, %d%s. %s' % (short(place), count, of, brief(place.about)))
+            lines.append('- %s, %d%s. %s' % (short(place), count, of, brief(place.about, short(place).rpartition('/')[2])))
     return '\n'.join(lines)
 
 
@@ -308,8 +308,8 @@ def counts(repository, seen):
 
 
 def sentence(repository, seen, library):
-    return ('The promise reaches %d definitions in %d files of `specs/` and %d words of the library. %d definitions '
-            'aren\'t reached.' % (counts(repository, seen)[:2] + (len(library),) + counts(repository, seen)[2:]))
+    return ('The promise reaches %d definitions in %d files of `specs/`, and %d names of the kit\'s libraries. %d definitions '
+            'of `specs/` aren\'t reached.' % (counts(repository, seen)[:2] + (len(library),) + counts(repository, seen)[2:]))
 
 
 def lost_definitions(repository):

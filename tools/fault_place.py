@@ -680,18 +680,18 @@ class Checker:
 
     def known_model(self, node):
         if node.value not in self.fields:
-            self.unknown(node, self.fields, 'model')
+            self.unknown(node, self.fields, 'there is no model')
 
     def known_field(self, model, node):
         if node.value not in self.fields[model]:
-            self.unknown(node, self.fields[model], 'field of ' + model)
+            self.unknown(node, self.fields[model], model + ' has no field')
 
     @staticmethod
-    def unknown(node, known, what):
+    def unknown(node, known, words):
         close = nearest(node.value, list(known))
         have = ', '.join(known) if known else 'none'
-        raise CheckFault(node, 'unknown name ' + node.value, 'there is no %s %s%s; there is %s' % (
-            what, node.value, '; is it %s?' % close if close else '', have))
+        raise CheckFault(node, 'unknown name ' + node.value, '%s %s%s; there is %s' % (
+            words, node.value, '; is it %s?' % close if close else '', have))
 
     @staticmethod
     def twice(node, what, before=None):
@@ -723,7 +723,7 @@ class Checker:
     def known_field_of(self, fields, node):
         known = self.fields_of(fields.children[1:])
         if node.value not in known:
-            self.unknown(node, known, 'field here')
+            self.unknown(node, known, 'this model has no field')
 
     def field_list(self, nodes, what):
         seen = set()
@@ -742,7 +742,7 @@ class Checker:
         for found in re.finditer(rb'\{([^}]*)\}', path.value):
             if found.group(1).decode() not in known:
                 span = Node('atom', path.places[found.start()], path.places[found.end() - 1] + 1, found.group(1).decode())
-                self.unknown(span, known, 'parameter')
+                self.unknown(span, known, 'there is no parameter')
         names = [(name, kind, False) for name, kind in known.items()]
         self.body(body, Scope(names), method == 'get', [])
 
