@@ -1,5 +1,5 @@
 -- What is left of a file that wasn't attached, and of a vault that holds it.
-use Rattle.std.proofs.Common.{◌≡◌, ◌⊎◌, inl, inr, refl, sym, ap, subst, ◌∙◌, ℕ, List, Option, Some, None, Result, Ok, Err, OnOk, OnErr, IsTrue, IsSomeAnd, arith}
+use Rattle.std.proofs.Common.{◌≡◌, ◌⊎◌, ◌≤◌, inl, inr, refl, sym, ap, subst, ◌∙◌, ℕ, Bool, true, false, List, Option, Some, None, Result, Ok, Err, OnOk, OnErr, IsTrue, IsSomeAnd, arith}
 use Rattle.sqlite_trees.specs.declared.store.Store.{Ghosts}
 use Rattle.sqlite.specs.Held.{Held}
 use Rattle.jac_io.specs.Faults.{Rose}
@@ -7,7 +7,8 @@ use Rattle.jac_keep.specs.KeeperSeen.{KeeperSeen}
 use Rattle.jac_keep.specs.declared.vault.AttachFault.{AttachFault}
 use Rattle.jac_keep.specs.declared.vault.AttachFault.TheVariants.{Failed, Memory, Other}
 use Rattle.jac_sqlkeep.specs.Based.{Based}
-use Rattle.jac_sqlkeep.specs.Kept.{Kept, untouched_keeper, HasSchema, StoodAs, IsLeftAs, LearnsSchema}
+use Rattle.jac_sqlkeep.specs.Kept.{Kept, untouched_keeper, HasStore, StoodAs, IsLeftAs, LearnsSchema}
+use Rattle.jac_sqlkeep.specs.Opening.{one_or_none}
 use Rattle.jac_reopen.specs.Reopened.{ReopenSeen}
 use Rattle.jac_host_vault.specs.HostSeen.{HostSeen, IsStoreLeft}
 use Rattle.jac_host_vault.specs.Content.{IsFileOf}
@@ -25,7 +26,7 @@ both P Q None one two = absurd one
 both P Q (Some a) one two = (one, two)
 
 pub file_left : {S : Type 0} (g : Ghosts S) (Gives : Held S → Type 0) (new : Kept) (result : Result (Unit {0}) AttachFault) → IsLeftAs g Gives (untouched_keeper 0 0) new result → LearnsSchema (untouched_keeper 0 0) new result
-    → ((stored : List ℕ) → result ≡ Err (Other stored) → IsSomeAnd new.refused (HasSchema stored)) → (result ≡ Err Failed → Rose 0 new.faults) → OnErr result (IsFileLeft g Gives new)
+    → ((stored : List ℕ) → result ≡ Err (Other stored) → IsSomeAnd new.refused (HasStore stored)) → (result ≡ Err Failed → Rose 0 new.faults) → OnErr result (IsFileLeft g Gives new)
 file_left g Gives new (Ok done) left learns stored rose = tt
 file_left g Gives new (Err Failed) left learns stored rose = record {
   other = λ text is. none_or_some new.store.schema text learns is;
@@ -40,8 +41,8 @@ file_left g Gives new (Err Memory) left learns stored rose = record {
 file_left g Gives new (Err (Other found)) left learns stored rose = record {
   other = λ text is. (
     left.0,
-    subst (λ (x : List ℕ). IsSomeAnd new.refused (λ (b : Based). StoodAs g Gives b × HasSchema x b)) (some_injective found text (sym learns ∙ is))
-        (both (StoodAs g Gives) (HasSchema found) new.refused left.1 (stored found refl)),
+    subst (λ (x : List ℕ). IsSomeAnd new.refused (λ (b : Based). StoodAs g Gives b × HasStore x b)) (some_injective found text (sym learns ∙ is))
+        (both (StoodAs g Gives) (HasStore found) new.refused left.1 (stored found refl)),
   );
   failed = λ none. none_or_some new.store.schema found none learns;
   stopped = λ none. none_or_some new.store.schema found none learns;
@@ -52,6 +53,11 @@ pub only_file : {S : Type 0} (g : Ghosts S) (Gives : Held S → Type 0) (schema 
     → OnOk result (IsOnlyFile schema new)
 only_file g Gives schema new (Ok done) one is = (one, is)
 only_file g Gives schema new (Err e) one is = tt
+
+-- an opener that opens once gave one connection at most
+pub one_at_most : (opened : Bool) → one_or_none opened ≤ 1
+one_at_most true = omega arith
+one_at_most false = omega arith
 
 -- ---- the vault that holds it
 

@@ -3,7 +3,7 @@ use Rattle.std.specs.Prelude.{◌≡◌, ◌⊎◌, ℕ, Bool, true, false, List
 use Rattle.jac_io.specs.Faults.{one_more_fault}
 use Rattle.jac_keep.specs.KeeperSeen.{KeeperSeen, Store}
 use Rattle.jac_keep.specs.KeeperState.{KeeperState}
-use Rattle.jac_reopen.specs.Reopened.{ReopenSeen, Supposed, waiting_keeper, seen_reopening, IsLeftUnattached, GoesAlong, GivesUpAtFault}
+use Rattle.jac_reopen.specs.Reopened.{ReopenSeen, Supposed, waiting_keeper, seen_reopening, IsLeftUnattached, IsOnlyVault, GoesAlong, GivesUpAtFault}
 
 -- The keeper in memory. The keeper in a file, if a file was requested. Whether what opens the file
 -- is still there. Whether there is memory alone, or a file alone. Whether the other of the two was
@@ -99,7 +99,11 @@ abbrev pub LeavesFile : {V : Type 0} → (V → KeeperSeen) → (Option (List �
 LeavesFile seen Leaves h = IfSome h.file (LeavesUnattached seen Leaves)
     × (h.file ≡ None → HasNoFile h)
 
--- The rows of the file that was attached are as `Stands` says.
+-- As long as its file wasn't opened again, one vault was opened.
+abbrev pub HasOneVault : {V : Type 0} → HostSeen V → Type 0
+HasOneVault h = IfSome h.file IsOnlyVault
+
+-- The file that was attached is as `Stands` says.
 abbrev pub KeepsRows : {V : Type 0} → (V → Type 0) → HostSeen V → Type 0
 KeepsRows {V} Stands h = IfSome h.file (λ (f : ReopenSeen V). IfSome f.first Stands)
 

@@ -4,7 +4,7 @@ use Rattle.sqlite_trees.specs.declared.store.Store.{Ghosts}
 use Rattle.sqlite.specs.Held.{Held}
 use Rattle.jac_io.specs.Faults.{Rose}
 use Rattle.jac_sqlkeep.specs.Based.{Based}
-use Rattle.jac_sqlkeep.specs.Kept.{Kept, HasSchema, StoodAs}
+use Rattle.jac_sqlkeep.specs.Kept.{Kept, HasStore, StoodAs}
 use Rattle.jac_host_vault.specs.Content.{IsFileOf}
 
 -- An attached file, over the only connection that its opener gave.
@@ -15,14 +15,14 @@ IsOnlyFile schema k = (k.given ≡ 1) × IsFileOf schema k
 abbrev pub IsOnlyRefused : {S : Type 0} → Ghosts S → (Held S → Type 0) → Kept → Type 0
 IsOnlyRefused g Gives k = (k.given ≡ 1) × IsSomeAnd k.refused (StoodAs g Gives)
 
--- A file that wasn't attached is left as its opener gave it. If another schema is known, it is the
--- stored one. If no schema is known and a fault was counted, either the file was opened and isn't a
--- store that can be read, or it wasn't opened. If no schema is known and no fault was counted,
--- memory ran out, after the file was opened or before. No file was opened twice.
+-- A file that wasn't attached is left as its opener gave it. If another schema is known, it is a
+-- store with this schema. If no schema is known and a fault was counted, either the file was opened
+-- and isn't a store that can be read, or it wasn't opened. If no schema is known and no fault was
+-- counted, memory ran out, after the file was opened or before. No file was opened twice.
 pub record IsFileLeft {S : Type 0} (g : Ghosts S) (Gives : Held S → Type 0) (k : Kept) : Type 0
   where
     pub other : (stored : List ℕ) → k.store.schema ≡ Some stored → (k.given ≡ 1)
-        × IsSomeAnd k.refused (λ (b : Based). StoodAs g Gives b × HasSchema stored b)
+        × IsSomeAnd k.refused (λ (b : Based). StoodAs g Gives b × HasStore stored b)
     pub failed : k.store.schema ≡ None → Rose 0 k.faults
         → ((k.given ≡ 0) × Rose 0 k.unopened) ⊎ IsOnlyRefused g Gives k
     pub stopped : k.store.schema ≡ None → k.faults ≡ 0

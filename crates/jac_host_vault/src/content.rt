@@ -1,5 +1,5 @@
 //! What opens a store's file, and what is supposed of that file, for contracts alone.
-ghost use Rattle.std.specs.Prelude.{◌≡◌, [], None, false, true, ℕ, List, Option, IsTrue};
+ghost use Rattle.std.specs.Prelude.{◌≡◌, ◌≤◌, [], None, false, ℕ, List, Option, IsTrue};
 ghost use Rattle.sqlite.specs.Held.{Held, state};
 ghost use Rattle.sqlite.specs.State.{HasCleanDisk};
 ghost use Rattle.sqlite_wal.specs.Files.{image_at};
@@ -26,21 +26,20 @@ pub trait FileContent: Start {
         ensures { StandFor (image_at Self.Start) holds };
 }
 
-/// What opens a store's file once, and closes it.
+/// What opens a store's file once, and closes it. Only a `MakesOpeners` makes it.
 pub trait FileOpens: Opener + Drop {
     /// What is supposed of the store in the file.
     ghost holds: { Supposed };
-
-    /// An opener that makes the file if it doesn't exist, or one that fails then.
-    fn new(rt: HostRuntime, makes: bool) -> Self
-        ensures faults { Self.Opener.faults result ≡ 0 }
-        ensures gave { Self.Opener.gave result ≡ 0 };
 
     /// A law: if something is supposed, a database that a clean disk gives holds it.
     fn stand()
         ensures { IsTrue holds.known → (name : Option (List ℕ)) (given : Held Self.Store)
             → Self.Opener.gives name given → HasCleanDisk (state Self.Store.Store given)
             → HoldsSupposed holds (state Self.Store.Store given).now };
+
+    /// A law: it gives at most one connection.
+    fn gives_once(&self)
+        ensures { Self.Opener.gave self.now ≤ 1 };
 
     /// Why the file wasn't opened.
     fn fault(&self) -> Option<OpenFault>;
@@ -52,13 +51,12 @@ pub trait FileOpens: Opener + Drop {
 impl<C: FileContent> FileOpens for FileOpener<C> {
     ghost holds = { C.holds };
 
-    fn new(rt: HostRuntime, makes: bool) -> FileOpener<C> {
-        FileOpener::new(rt, makes, C::new())
-    }
-
     fn stand() {
         C::stand();
     }
+
+    #[tactic(auto, using(crate::proofs::Left::one_at_most))]
+    fn gives_once(&self) {}
 
     fn fault(&self) -> Option<OpenFault> {
         FileOpener::fault(self)
@@ -80,11 +78,10 @@ impl FileOpens for HostOpener {
       state = record { tables = []; number = 1 };
     } };
 
-    fn new(rt: HostRuntime, makes: bool) -> HostOpener {
-        HostOpener::new(rt, makes)
-    }
-
     fn stand() {}
+
+    #[tactic(auto, using(crate::proofs::Left::one_at_most))]
+    fn gives_once(&self) {}
 
     fn fault(&self) -> Option<OpenFault> {
         HostOpener::fault(self)

@@ -1,10 +1,10 @@
-ghost use Rattle.std.specs.Prelude.{◌≡◌, ℕ, List, Err, OnOk, IsSomeAnd, false};
+ghost use Rattle.std.specs.Prelude.{◌≡◌, ◌≤◌, ℕ, List, Err, OnOk, IsSomeAnd, false};
 ghost use Rattle.std.specs.Option.{option_copied};
 ghost use Rattle.jac_rows.specs.Good.{ModelShape};
 ghost use Rattle.jac_keep.specs.Attaching.{Attaches};
 ghost use Rattle.jac_keep.specs.Schema.{IsSchema};
 ghost use Rattle.jac_keep.specs.declared.vault.AttachFault.TheVariants.{Other};
-ghost use Rattle.jac_sqlkeep.specs.Kept.{seen_kept, HasSchema, HasStandingRows, IsLeftAs, LearnsSchema};
+ghost use Rattle.jac_sqlkeep.specs.Kept.{seen_kept, HasStore, HasStandingDatabase, KnowsSchema, IsLeftAs, LearnsSchema};
 ghost use Rattle.jac_host_vault.specs.Content.{IsFileOf, IsFound};
 
 use crate::FileOpens;
@@ -46,13 +46,13 @@ impl<O: FileOpens> Drop for FileKeeper<O> {
 impl<O: FileOpens> FileKeeper<O> {
     ghost use Rattle.jac_sqlkeep.specs.Kept.{untouched_keeper};
 
-    /// A keeper that isn't attached yet. If it makes no files, it opens only files that exist.
-    pub fn new(rt: HostRuntime, makes: bool) -> FileKeeper<O>
-        ensures { result ≡ untouched_keeper 0 0 }
+    /// A keeper that isn't attached yet, of the file that the opener opens.
+    pub fn new(rt: HostRuntime, opener: O) -> FileKeeper<O>
+        ensures { result ≡ untouched_keeper (O.Opener.faults opener) (O.Opener.gave opener) }
     {
         FileKeeper {
             rt,
-            keeper: SqlKeeper::new(O::new(rt, makes)),
+            keeper: SqlKeeper::new(opener),
         }
     }
 
@@ -72,11 +72,25 @@ impl<O: FileOpens> FileKeeper<O> {
         self.keeper.doubt();
     }
 
-    /// A law: as long as its state is known, the rows of its file are well formed and committed.
+    /// A law: as long as its state is known, the database of its file is well formed and committed.
     pub fn rows_stand(&self)
-        ensures { HasStandingRows self.now }
+        ensures { HasStandingDatabase self.now }
     {
         self.keeper.rows_stand();
+    }
+
+    /// A law: as long as its state is known, its schema is the text in its file.
+    pub fn schema_stands(&self)
+        ensures { KnowsSchema self.now }
+    {
+        self.keeper.schema_stands();
+    }
+
+    /// A law: its opener gave at most one connection.
+    pub fn gave_once(&self)
+        ensures { self.now.given ≤ 1 }
+    {
+        self.keeper.opener().gives_once();
     }
 
     /// Prints to standard error why the file of this name wasn't attached.
@@ -142,7 +156,7 @@ impl<O: FileOpens> Vault for FileKeeper<O> {
         ensures begins { OnOk result (IsFileOf schema.now self.new) }
         ensures found { OnOk result (IsFound O.holds schema.now self.new) }
         ensures other_stored { (stored : List ℕ) → result ≡ Err (Other stored)
-            → IsSomeAnd self.new.refused (HasSchema stored) }
+            → IsSomeAnd self.new.refused (HasStore stored) }
         ensures left { IsLeftAs O.Store.Store (O.Opener.gives (option_copied name.entry)) self.old
             self.new result }
         ensures learns { LearnsSchema self.old self.new result }

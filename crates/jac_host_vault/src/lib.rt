@@ -6,12 +6,13 @@ mod content;
 mod file;
 mod laws;
 mod maker;
+mod openers;
 mod told;
 mod vault;
 
 pub use content::{FileContent, FileOpens};
 pub use file::FileKeeper;
-pub use jac_sqlkeep::HostOpener;
 pub use laws::file_goes_on_telling;
-pub use maker::FileMaker;
+pub use maker::{FileMaker, FileSpare};
+pub use openers::{FileOpeners, HostOpeners, MakesOpeners, OtherOpeners};
 pub use vault::HostVault;

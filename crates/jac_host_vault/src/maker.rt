@@ -1,76 +1,94 @@
 ghost use Rattle.std.specs.Prelude.{◌≡◌, List};
 
 use crate::told::FaultLog;
-use crate::{FileKeeper, FileOpens};
+use crate::{FileKeeper, MakesOpeners};
 use jac_keep::{AttachFault, Stop, Vault};
 use jac_reopen::{KnownStore, VaultMaker};
 use jac_table_cache::CachedKeeper;
 use jac_value::Txt;
 use std::alloc::Global;
-use std::marker::PhantomData;
 
-/// Opens files. Their tables are held in memory after they are read.
+/// Opens a file. Its tables are held in memory after they are read.
 #[derive(Drop)]
-pub struct FileMaker<O: FileOpens> {
+pub struct FileMaker<F: MakesOpeners> {
     rt: HostRuntime,
     makes: bool,
-    log: FaultLog,
-    opener: PhantomData<O>,
+    openers: F,
 }
 
-impl<O: FileOpens> FileMaker<O> {
-    /// A maker that makes the files that don't exist, or one that refuses them.
-    pub fn new(rt: HostRuntime, makes: bool) -> FileMaker<O> {
-        FileMaker {
-            rt,
-            makes,
-            log: FaultLog::new(rt),
-            opener: PhantomData,
-        }
+impl<F: MakesOpeners> FileMaker<F> {
+    /// A maker that makes the file if it doesn't exist, or one that refuses it.
+    pub fn new(rt: HostRuntime, makes: bool, openers: F) -> FileMaker<F> {
+        FileMaker { rt, makes, openers }
     }
 }
 
-impl<O: FileOpens> VaultMaker for FileMaker<O> {
-    ghost use Rattle.jac_sqlkeep.specs.Kept.{HasStandingRows};
+/// Opens the file again.
+#[derive(Drop)]
+pub struct FileSpare<F: MakesOpeners> {
+    rt: HostRuntime,
+    others: F::Others,
+    log: FaultLog,
+}
+
+impl<F: MakesOpeners> VaultMaker for FileMaker<F> {
     ghost use Rattle.jac_host_vault.specs.Left.{IsOnlyFile, IsFileLeft};
+    ghost use Rattle.jac_host_vault.specs.Standing.{IsStandingFile};
 
-    type Vault = CachedKeeper<FileKeeper<O>>;
+    type Vault = CachedKeeper<FileKeeper<F::Opens>>;
 
-    ghost supposes = { O.holds };
+    type Spare = FileSpare<F>;
+
+    ghost supposes = { F.Opens.holds };
 
     ghost begins = { IsOnlyFile };
 
-    ghost leaves = { λ name k. IsFileLeft O.Store.Store (O.Opener.gives name) k };
+    ghost leaves = { λ name k. IsFileLeft F.Opens.Store.Store (F.Opens.Opener.gives name) k };
 
-    ghost stands = { HasStandingRows };
+    ghost stands = { IsStandingFile };
 
-    fn rows_stand(vault: &CachedKeeper<FileKeeper<O>>) {
-        vault.keeper().rows_stand();
+    ghost made = { λ s. F.made s.others };
+
+    #[tactic(auto, using(crate::proofs::Standing::standing_file))]
+    fn rows_stand(vault: &CachedKeeper<FileKeeper<F::Opens>>) {
+        let file = vault.keeper();
+        file.rows_stand();
+        file.schema_stands();
+        file.gave_once();
     }
 
     /// Reports on standard error why a file is refused.
     fn attach(
-        &mut self,
+        self,
         alloc: Global,
         name: Option<&Txt>,
         schema: &Txt,
-    ) -> (CachedKeeper<FileKeeper<O>>, Result<(), AttachFault>) {
-        let mut file = FileKeeper::<O>::new(self.rt, self.makes);
+    ) -> (
+        CachedKeeper<FileKeeper<F::Opens>>,
+        FileSpare<F>,
+        Result<(), AttachFault>,
+    ) {
+        let FileMaker { rt, makes, openers } = self;
+        let (opener, others) = openers.first(makes);
+        let mut file = FileKeeper::new(rt, opener);
         let attached = file.attach(alloc, name, schema);
         if attached.is_err() {
             if let Some(name) = name {
                 file.tell_refusal(name);
             }
         }
-        (CachedKeeper::new(alloc, file), attached)
+        let log = FaultLog::new(rt);
+        let spare = FileSpare { rt, others, log };
+        (CachedKeeper::new(alloc, file), spare, attached)
     }
 
     fn attach_again(
-        &mut self,
+        spare: &mut FileSpare<F>,
         alloc: Global,
         store: &KnownStore,
-    ) -> Result<CachedKeeper<FileKeeper<O>>, Stop> {
-        let mut file = FileKeeper::<O>::new(self.rt, false);
+    ) -> Result<CachedKeeper<FileKeeper<F::Opens>>, Stop> {
+        let opener = F::another(&mut spare.others);
+        let mut file = FileKeeper::new(spare.rt, opener);
         match file.attach(alloc, store.name(), store.schema()) {
             Ok(()) => {
                 file.doubt();
@@ -78,25 +96,27 @@ impl<O: FileOpens> VaultMaker for FileMaker<O> {
             }
             Err(AttachFault::Memory) => Err(Stop::Memory),
             Err(AttachFault::Failed | AttachFault::Other(_)) => {
-                self.tell(store, "the store can't be opened again");
+                tell(&mut spare.log, store, "the store can't be opened again");
                 Err(Stop::Keeper)
             }
         }
     }
 
-    fn tell_fault(&mut self, vault: &CachedKeeper<FileKeeper<O>>, store: &KnownStore) {
-        self.tell(store, vault.keeper().words_of_fault());
+    fn tell_fault(
+        spare: &mut FileSpare<F>,
+        vault: &CachedKeeper<FileKeeper<F::Opens>>,
+        store: &KnownStore,
+    ) {
+        tell(&mut spare.log, store, vault.keeper().words_of_fault());
     }
 
-    fn faults(&self, vault: &CachedKeeper<FileKeeper<O>>) -> u64 {
+    fn faults(vault: &CachedKeeper<FileKeeper<F::Opens>>) -> u64 {
         vault.keeper().faults()
     }
 }
 
-impl<O: FileOpens> FileMaker<O> {
-    fn tell(&mut self, store: &KnownStore, what: &str) {
-        if let Some(name) = store.name() {
-            self.log.tell(name.as_str(), what);
-        }
+fn tell(log: &mut FaultLog, store: &KnownStore, what: &str) {
+    if let Some(name) = store.name() {
+        log.tell(name.as_str(), what);
     }
 }

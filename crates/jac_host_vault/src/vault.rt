@@ -4,7 +4,7 @@ ghost use Rattle.jac_rows.specs.Good.{ModelShape};
 ghost use Rattle.jac_keep.specs.Attaching.{Attaches};
 ghost use Rattle.jac_keep.specs.KeeperState.{IsStored, unattached_store};
 ghost use Rattle.jac_keep.specs.Schema.{IsSchema};
-ghost use Rattle.jac_host_vault.specs.HostSeen.{IsStorePlaced, IsStoreLeft, LeavesFile, KeepsRows};
+ghost use Rattle.jac_host_vault.specs.HostSeen.{IsStorePlaced, IsStoreLeft, LeavesFile, HasOneVault, KeepsRows};
 
 use jac_io::Calls;
 use jac_keep::{AttachFault, Change, Keeper, MemoryKeeper, Place, Stop, Vault};
@@ -119,7 +119,16 @@ impl<M: VaultMaker> HostVault<M> {
         }
     }
 
-    /// A law: the rows of its file are as its maker says.
+    /// A law: as long as its file wasn't opened again, its maker opened one vault.
+    pub fn made_once(&self)
+        ensures { HasOneVault self.now }
+    {
+        if let Some(file) = &self.file {
+            file.made_once();
+        }
+    }
+
+    /// A law: its file is as its maker says.
     pub fn rows_stand(&self)
         ensures { KeepsRows M.stands self.now }
     {

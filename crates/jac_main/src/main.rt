@@ -11,14 +11,14 @@ ghost use Rattle.jac_command_base.specs.Files.{sight};
 ghost use Rattle.jac_sqlkeep.specs.Kept.{seen_kept};
 ghost use Rattle.jac_host_vault.specs.HostSeen.{LeavesFile};
 ghost use Rattle.jac_host_vault.specs.Left.{IsFileLeft};
-ghost use Rattle.jac_host_vault.specs.Standing.{IsStoreStanding};
+ghost use Rattle.jac_host_vault.specs.Standing.{IsStoreStanding, IsOpenedOnce, IsOtherStore};
 ghost use Rattle.jac_main.specs.Promise.{KeepsPromise, top_run};
 ghost use Rattle.jac_main.specs.Start.{BeginsSupposed, has_file};
 
 use jac_app::{Status, run};
 use jac_cli::{Command, command_of};
 use jac_host::{HostAudit, HostDoor, HostFiles, HostLink, Outside, Stdout, Unknown};
-use jac_host_vault::{FileMaker, FileOpens, HostOpener, HostVault};
+use jac_host_vault::{FileMaker, HostOpeners, HostVault, MakesOpeners};
 use jac_io::{Door, Failed, Files, Link, Sink};
 use jac_keep::Keeper;
 use jac_rows::{State, Tables};
@@ -31,7 +31,12 @@ use std::sync::ledger::{Blank, Ledger};
 use std::{env, io};
 
 fn main(rt: HostRuntime) -> ExitCode {
-    let ran = run_words::<Brand, Brand, Unknown, HostOpener>(&rt, Blank::new(1), Blank::new(1));
+    let ran = run_words::<Brand, Brand, Unknown, HostOpeners>(
+        &rt,
+        HostOpeners::new(rt),
+        Blank::new(1),
+        Blank::new(1),
+    );
     let status = match ran {
         Ok(status) => status,
         Err(Memory) => run_out(&rt),
@@ -47,8 +52,9 @@ fn run_out(rt: &HostRuntime) -> Status {
     }
 }
 
-fn run_words<L: Ledger, M: Ledger, O: Outside, F: FileOpens>(
+fn run_words<L: Ledger, M: Ledger, O: Outside, F: MakesOpeners>(
     rt: &HostRuntime,
+    openers: F,
     blank: Blank,
     second: Blank,
 ) -> Result<Status, Memory>
@@ -61,7 +67,7 @@ fn run_words<L: Ledger, M: Ledger, O: Outside, F: FileOpens>(
 {
     let alloc = rt.alloc();
     let words = words_of(rt)?;
-    let mut vault = vault_for::<F>(rt, words.as_slice())?;
+    let mut vault = vault_for(rt, openers, words.as_slice())?;
     let mut host: Host<'_, O> = Host {
         files: HostFiles::new(rt),
         out: Stdout::new(rt),
@@ -95,10 +101,11 @@ struct Host<'h, O: Outside> {
 // was taken are as `O` says, each clause holds of the bytes that writes took. `F` opens the store's
 // file and supposes what it holds: if its bytes are as `F` says, each clause about what was stored
 // holds of the store that they represent. A file that isn't attached at the end is left as it was
-// opened. If a file is attached and its state is known at the end, its rows are well formed and
-// committed. The input of each connection that was handed back ends for good, so some input agrees
-// with all that was read from it.
-fn run_host<O: Outside, F: FileOpens, L: Ledger, M: Ledger>(
+// opened. If the status is 9, that file is a store with another schema. If a file is attached and
+// its state is known at the end, its database is well formed and committed, with the store's schema
+// text. One opener is made, unless a fault closed the store. The input of each connection that was
+// handed back ends for good, so some input agrees with all that was read from it.
+fn run_host<O: Outside, F: MakesOpeners, L: Ledger, M: Ledger>(
     alloc: Global,
     words: &[Txt],
     host: &mut Host<'_, O>,
@@ -114,9 +121,9 @@ fn run_host<O: Outside, F: FileOpens, L: Ledger, M: Ledger>(
         ≡ door_seen O.inputs [] [] 0 }
     requires first { (⟦<HostVault<FileMaker<F>> as Keeper>⟧.seen vault.old).store.called
         ≡ false }
-    requires begins { BeginsSupposed F.holds words.now
+    requires begins { BeginsSupposed F.Opens.holds words.now
         (⟦<HostVault<FileMaker<F>> as Keeper>⟧.seen vault.old) }
-    ensures promise { KeepsPromise F.holds words.now (top_run ⟦<HostLink<O> as Link>⟧.seen
+    ensures promise { KeepsPromise F.Opens.holds words.now (top_run ⟦<HostLink<O> as Link>⟧.seen
         (sight (files_seen O.file [] 0) (⟦<HostFiles<'static, O> as Files>⟧.seen host.new.files)
         (sink_seen [] 0) (⟦<Stdout<'static> as Sink>⟧.seen host.new.out)
         (sink_seen [] 0) (⟦<HostAudit<'static> as Sink>⟧.seen host.new.audit)
@@ -124,9 +131,12 @@ fn run_host<O: Outside, F: FileOpens, L: Ledger, M: Ledger>(
         (⟦<HostVault<FileMaker<F>> as Keeper>⟧.seen vault.new))
         (span (door_seen O.inputs [] [] 0) (⟦<HostDoor<'static, O> as Door>⟧.seen host.new.door))
         (span splits.old splits.new) (span evaluations.old evaluations.new) result) }
-    ensures left { LeavesFile seen_kept (λ name. IsFileLeft F.Store.Store (F.Opener.gives name))
-        vault.new }
-    ensures stands { IsStoreStanding F.holds vault.new }
+    ensures left { LeavesFile seen_kept
+        (λ name. IsFileLeft F.Opens.Store.Store (F.Opens.Opener.gives name)) vault.new }
+    ensures other { result ≡ Status.OtherStore → IsOtherStore F.Opens.holds F.Opens.Store.Store
+        F.Opens.Opener.gives vault.new }
+    ensures stands { IsStoreStanding F.Opens.holds vault.new }
+    ensures once { IsOpenedOnce vault.new }
     ensures ended { AreEnded host.new.door.returned.items }
 {
     let status = run(
@@ -142,19 +152,21 @@ fn run_host<O: Outside, F: FileOpens, L: Ledger, M: Ledger>(
     );
     vault.stand();
     vault.rows_stand();
+    vault.made_once();
     host.door.stand();
     status
 }
 
 // The store that these words ask for. Unless their command names a file, it is in memory and empty,
 // and its state is known from now on.
-fn vault_for<F: FileOpens>(
+fn vault_for<F: MakesOpeners>(
     rt: &HostRuntime,
+    openers: F,
     words: &[Txt],
 ) -> Result<HostVault<FileMaker<F>>, Memory>
     ensures first { IfOk result (λ vault.
         (⟦<HostVault<FileMaker<F>> as Keeper>⟧.seen vault).store.called ≡ false) }
-    ensures begins { IfOk result (λ vault. BeginsSupposed F.holds words.now
+    ensures begins { IfOk result (λ vault. BeginsSupposed F.Opens.holds words.now
         (⟦<HostVault<FileMaker<F>> as Keeper>⟧.seen vault)) }
 {
     let alloc = rt.alloc();
@@ -164,7 +176,7 @@ fn vault_for<F: FileOpens>(
         number: 1,
     };
     if names_file(&command) {
-        let maker = FileMaker::new(*rt, makes_file(&command));
+        let maker = FileMaker::new(*rt, makes_file(&command), openers);
         return Ok(HostVault::in_file(alloc, state, maker));
     }
     Ok(HostVault::in_memory(alloc, state))

@@ -1,6 +1,6 @@
 -- One call of a keeper that opens its store again: what it preserves of the vault that was attached
 -- first.
-use Rattle.std.proofs.Common.{◌≡◌, ◌≤◌, inl, inr, Option, Some, None, sym, ap, subst, arith}
+use Rattle.std.proofs.Common.{◌≡◌, ◌≤◌, inl, inr, ℕ, Option, Some, None, sym, subst, arith}
 use Rattle.jac_io.specs.Faults.{Rose}
 use Rattle.jac_keep.specs.KeeperSeen.{KeeperSeen}
 use Rattle.jac_keep.specs.Preorder.{Preorder}
@@ -12,8 +12,8 @@ module _ {V : Type 0} (seen : V → KeeperSeen) (goes : Preorder V) where
   Goes old new = GivesUpAtFault seen goes.holds old new
 
   -- The first vault was called.
-  pub first_goes : (a b : V) → (seen a).faults ≤ (seen b).faults → goes.holds a b → Goes (record { first = Some a; again = None }) (record { first = Some b; again = None })
-  first_goes a b later on = record {
+  pub first_goes : (a b : V) (m n : Option ℕ) → (seen a).faults ≤ (seen b).faults → goes.holds a b → Goes (record { first = Some a; again = None; made = m }) (record { first = Some b; again = None; made = n })
+  first_goes a b m n later on = record {
     later = later;
     fault = λ kept. inl kept;
     once = λ kept. kept;
@@ -21,10 +21,10 @@ module _ {V : Type 0} (seen : V → KeeperSeen) (goes : Preorder V) where
   }
 
   -- Then it was given up, because it had counted a fault.
-  pub closed_goes : (a b : V) (new : ReopenSeen V) → (seen a).faults ≤ (seen b).faults → goes.holds a b → Rose (seen a).faults (seen b).faults
-      → (seen b).faults ≤ (seen_reopening seen new).faults → (new.again ≡ None → new ≡ record { first = Some b; again = None })
-      → Goes (record { first = Some a; again = None }) new
-  closed_goes a b new later on rose closed kept = record {
+  pub closed_goes : (a b : V) (m n : Option ℕ) (new : ReopenSeen V) → (seen a).faults ≤ (seen b).faults → goes.holds a b → Rose (seen a).faults (seen b).faults
+      → (seen b).faults ≤ (seen_reopening seen new).faults → (new.again ≡ None → new ≡ record { first = Some b; again = None; made = n })
+      → Goes (record { first = Some a; again = None; made = m }) new
+  closed_goes a b m n new later on rose closed kept = record {
     later = omega (arith, later, closed);
     fault = λ still. inr (omega (arith, rose, closed));
     once = λ still. λ i. None;
@@ -32,13 +32,13 @@ module _ {V : Type 0} (seen : V → KeeperSeen) (goes : Preorder V) where
   }
 
   -- Then it was tested.
-  pub then_goes : (a b : V) (new : ReopenSeen V) → (seen a).faults ≤ (seen b).faults → goes.holds a b → Goes (record { first = Some b; again = None }) new
-      → Goes (record { first = Some a; again = None }) new
-  then_goes a b new later on closed = gives_up_joined seen goes (record { first = Some a; again = None }) (record { first = Some b; again = None }) new (first_goes a b later on) closed
+  pub then_goes : (a b : V) (m n : Option ℕ) (new : ReopenSeen V) → (seen a).faults ≤ (seen b).faults → goes.holds a b → Goes (record { first = Some b; again = None; made = n }) new
+      → Goes (record { first = Some a; again = None; made = m }) new
+  then_goes a b m n new later on closed = gives_up_joined seen goes (record { first = Some a; again = None; made = m }) (record { first = Some b; again = None; made = n }) new (first_goes a b m n later on) closed
 
   -- The store that was opened again was called.
-  pub again_goes : (first : Option V) (a b : UntoldSeen) → a.faults ≤ b.faults → Goes (record { first = first; again = Some a }) (record { first = first; again = Some b })
-  again_goes first a b later = record {
+  pub again_goes : (first : Option V) (a b : UntoldSeen) (m n : Option ℕ) → a.faults ≤ b.faults → Goes (record { first = first; again = Some a; made = m }) (record { first = first; again = Some b; made = n })
+  again_goes first a b m n later = record {
     later = later;
     fault = λ kept. absurd cc;
     once = λ kept. absurd cc;

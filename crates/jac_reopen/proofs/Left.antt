@@ -1,6 +1,6 @@
 -- Two steps of a keeper as one: a call that the keeper stopped, and then a test whether its store
 -- is shut.
-use Rattle.std.proofs.Common.{◌≡◌, ◌∙◌, ℕ, false, true≢false, sym, ap, List, Option, Some, Result, Err, IsTrue, arith}
+use Rattle.std.proofs.Common.{◌≡◌, ◌∙◌, ℕ, true≢false, sym, ap, List, Option, Some, Result, Err, IsTrue, arith}
 use Rattle.jac_keep.specs.KeeperSeen.{KeeperSeen, Store, Keeps, Looks, Reads, IsLeft}
 use Rattle.jac_keep.specs.Reshaping.{Reshapes}
 use Rattle.jac_keep.specs.declared.alteration.Change.{Change}

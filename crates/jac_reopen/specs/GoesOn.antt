@@ -1,9 +1,8 @@
 -- What any number of calls of a keeper that opens its store again preserve.
-use Rattle.std.proofs.Common.{◌≡◌, ◌⊎◌, inl, inr, Option, Some, None, arith}
-use Rattle.jac_io.specs.Faults.{Rose}
+use Rattle.std.proofs.Common.{inl, inr, Option, Some, None, arith}
 use Rattle.jac_keep.specs.KeeperSeen.{KeeperSeen}
 use Rattle.jac_keep.specs.Preorder.{Preorder}
-use Rattle.jac_reopen.specs.Reopened.{ReopenSeen, seen_reopening, GoesAlong, GivesUpAtFault}
+use Rattle.jac_reopen.specs.Reopened.{ReopenSeen, GoesAlong, GivesUpAtFault}
 
 pub along_same : {V : Type 0} (goes : Preorder V) (a : Option V) → GoesAlong goes.holds a a
 along_same goes None = tt

@@ -59,10 +59,16 @@ waiting_keeper s = record {
 abbrev pub unopened_keeper : KeeperSeen
 unopened_keeper = waiting_keeper nothing_supposed
 
--- The vault that was attached first, and the keeper over the store that was opened again.
+-- The vault that was attached first, and the keeper over the store that was opened again. If it
+-- wasn't opened again, how many vaults were opened.
 pub record ReopenSeen (V : Type 0) : Type 0 where
   pub first : Option V
   pub again : Option UntoldSeen
+  pub made : Option ℕ
+
+-- As long as the store wasn't opened again, one vault was opened.
+abbrev pub IsOnlyVault : {V : Type 0} → ReopenSeen V → Type 0
+IsOnlyVault r = r.again ≡ None → r.made ≡ Some 1
 
 abbrev pub seen_first : {V : Type 0} → (V → KeeperSeen) → Option V → KeeperSeen
 seen_first seen None = unopened_keeper

@@ -1,12 +1,12 @@
 ghost use Rattle.std.specs.Prelude.{◌≡◌, ◌≤◌, ◌^◌, List, Some, None, length, IfOk, IfSome, IsErrOf, IsSomeAnd, OnOk, OnErr, IsTrue, false};
-ghost use Rattle.std.specs.Option.{option_copied};
+ghost use Rattle.std.specs.Option.{option_copied, option_map};
 ghost use Rattle.jac_rows.specs.Good.{ModelShape, IsSound};
 ghost use Rattle.jac_keep.specs.Attaching.{Attaches};
 ghost use Rattle.jac_keep.specs.KeeperSeen.{IsLeft};
 ghost use Rattle.jac_keep.specs.ChangedState.{changed_state};
 ghost use Rattle.jac_keep.specs.Reshaping.{widened_state, Reshapes};
 ghost use Rattle.jac_keep.specs.Schema.{IsSchema, IsFit};
-ghost use Rattle.jac_reopen.specs.Reopened.{seen_reopening, waiting_keeper, known_store, HasShapes, GivesUpAtFault, IsLeftUnattached};
+ghost use Rattle.jac_reopen.specs.Reopened.{seen_reopening, waiting_keeper, known_store, HasShapes, GivesUpAtFault, IsLeftUnattached, IsOnlyVault};
 ghost use Rattle.jac_reopen.specs.GoesOn.{gives_up_at_fault};
 
 use crate::{KnownStore, ReopenedKeeper, VaultMaker};
@@ -16,13 +16,6 @@ use jac_value::{Id, Memory, Txt, Value};
 use std::alloc::Global;
 use std::marker::Model;
 
-// What opens the store again.
-#[derive(Drop)]
-struct Spare<M: VaultMaker> {
-    maker: M,
-    store: KnownStore,
-}
-
 /// A keeper over a store that was attached. If a fault of the disk closed the store, the next call
 /// opens it again, with all the tests of attaching. From then on calls answer from what the store
 /// holds, and the keeper's state isn't known.
@@ -30,21 +23,28 @@ struct Spare<M: VaultMaker> {
 pub struct ReopeningKeeper<M: VaultMaker> {
     alloc: Global,
     first: Option<M::Vault>,
-    spare: Option<Spare<M>>,
+    spare: Option<M::Spare>,
+    store: Option<KnownStore>,
     again: Option<ReopenedKeeper<M>>,
 }
 
 impl<M: VaultMaker> Model for ReopeningKeeper<M> {
-    ghost use Rattle.std.specs.Prelude.{◌≡◌, IfSome};
+    ghost use Rattle.std.specs.Prelude.{◌≡◌, IfSome, Some, None};
+    ghost use Rattle.std.specs.Option.{option_map};
     ghost use Rattle.jac_reopen.specs.Reopened.{ReopenSeen, HasShapes, known_store, IsLeftUnattached};
 
     ghost Value = { ReopenSeen M.Vault };
 
-    ghost view = { λ k. record { first = k.first; again = k.again } };
+    ghost view = { λ k. record {
+      first = k.first;
+      again = k.again;
+      made = option_map M.made k.spare;
+    } };
 
-    ghost invariant = { λ k. IfSome k.spare (λ s. HasShapes s.store × IfSome k.first (λ v.
-        (M.Vault.Keeper.seen v).store ≡ known_store s.store))
-        × IfSome k.first (IsLeftUnattached M.Vault.Keeper.seen M.leaves) };
+    ghost invariant = { λ k. IfSome k.store (λ s. HasShapes s × IfSome k.first (λ v.
+        (M.Vault.Keeper.seen v).store ≡ known_store s))
+        × IfSome k.first (IsLeftUnattached M.Vault.Keeper.seen M.leaves)
+        × (k.again ≡ None → option_map M.made k.spare ≡ Some 1) };
 }
 
 impl<M: VaultMaker> ReopeningKeeper<M> {
@@ -64,27 +64,37 @@ impl<M: VaultMaker> ReopeningKeeper<M> {
             (IsSomeAnd result.0.first (M.leaves (option_copied name.entry))) }
         ensures first { result.0.again ≡ None }
     {
-        let mut maker = maker;
-        let (vault, attached) = maker.attach(alloc, name, schema);
+        let (vault, spare, attached) = maker.attach(alloc, name, schema);
         match attached {
             Ok(()) => {
-                let spare = spare_of(alloc, maker, name, schema);
-                (ReopeningKeeper::over(alloc, vault, spare), Ok(()))
+                let store = store_of(alloc, name, schema);
+                (ReopeningKeeper::over(alloc, vault, spare, store), Ok(()))
             }
-            Err(fault) => (ReopeningKeeper::over(alloc, vault, None), Err(fault)),
+            Err(fault) => (ReopeningKeeper::over(alloc, vault, spare, None), Err(fault)),
         }
     }
 
-    fn over(alloc: Global, vault: M::Vault, spare: Option<Spare<M>>) -> ReopeningKeeper<M>
-        requires known { IfSome spare (λ s. HasShapes s.store
-            × ((M.Vault.Keeper.seen vault).store ≡ known_store s.store)) }
+    fn over(
+        alloc: Global,
+        vault: M::Vault,
+        spare: M::Spare,
+        store: Option<KnownStore>,
+    ) -> ReopeningKeeper<M>
+        requires known { IfSome store (λ s. HasShapes s
+            × ((M.Vault.Keeper.seen vault).store ≡ known_store s)) }
         requires left { IsLeftUnattached M.Vault.Keeper.seen M.leaves vault }
-        ensures { result ≡ record { first = Some vault; again = None } }
+        requires made { M.made spare ≡ 1 }
+        ensures { result ≡ record {
+          first = Some vault;
+          again = None;
+          made = Some (M.made spare);
+        } }
     {
         ReopeningKeeper {
             alloc,
             first: Some(vault),
-            spare,
+            spare: Some(spare),
+            store,
             again: None,
         }
     }
@@ -94,6 +104,13 @@ impl<M: VaultMaker> ReopeningKeeper<M> {
         ensures { IfSome self.now.first (IsLeftUnattached M.Vault.Keeper.seen M.leaves) }
     {
         let _ = &self.first;
+    }
+
+    /// A law: as long as the store wasn't opened again, one vault was opened.
+    pub fn made_once(&self)
+        ensures { IsOnlyVault self.now }
+    {
+        let _ = &self.spare;
     }
 
     /// A law: the rows of the vault that was attached first are as its maker says.
@@ -121,9 +138,7 @@ impl<M: VaultMaker> ReopeningKeeper<M> {
         let Some(first) = &mut self.first else {
             unreachable!()
         };
-        if let Some(spare) = &mut self.spare {
-            spare.maker.tell_fault(first, &spare.store);
-        }
+        tell_fault::<M>(&mut self.spare, first, &self.store);
         match first.number() {
             Err(Stop::Keeper) => self.close(),
             _ => (),
@@ -141,16 +156,18 @@ impl<M: VaultMaker> ReopeningKeeper<M> {
             → IsSound (seen_reopening M.Vault.Keeper.seen self.new).state }
         ensures kept { self.new.again ≡ None → self.new ≡ self.old }
     {
-        let Some(spare) = self.spare.take() else {
+        let Some(store) = self.store.take() else {
             return;
+        };
+        let Some(spare) = self.spare.take() else {
+            unreachable!()
         };
         let Some(first) = self.first.take() else {
             unreachable!()
         };
-        let Spare { maker, store } = spare;
-        let faults = maker.faults(&first);
+        let faults = M::faults(&first);
         drop(first);
-        self.again = Some(ReopenedKeeper::new(self.alloc, maker, store, faults));
+        self.again = Some(ReopenedKeeper::new(self.alloc, spare, store, faults));
     }
 }
 
@@ -176,7 +193,7 @@ impl<M: VaultMaker> ReopeningKeeper<M> {
         };
         match first.reshape(alloc, change, schema) {
             Ok(()) => {
-                self.spare = None;
+                self.store = None;
                 Ok(())
             }
             Err(Stop::Memory) => Err(Stop::Memory),
@@ -189,22 +206,34 @@ impl<M: VaultMaker> ReopeningKeeper<M> {
 }
 
 // If memory runs out, the store won't be opened again.
-fn spare_of<M: VaultMaker>(
-    alloc: Global,
-    maker: M,
-    name: Option<&Txt>,
-    schema: &Txt,
-) -> Option<Spare<M>>
-    ensures { IfSome result (λ s. s.store ≡ record {
+fn store_of(alloc: Global, name: Option<&Txt>, schema: &Txt) -> Option<KnownStore>
+    ensures { IfSome result (λ s. s ≡ record {
       name = option_copied name.entry;
       schema =
           schema.now;
     }) }
 {
     match KnownStore::new(alloc, name, schema) {
-        Ok(store) => Some(Spare { maker, store }),
+        Ok(store) => Some(store),
         Err(Memory) => None,
     }
+}
+
+// Says that a call of the vault failed, if its store is known.
+fn tell_fault<M: VaultMaker>(
+    spare: &mut Option<M::Spare>,
+    vault: &M::Vault,
+    store: &Option<KnownStore>,
+)
+    ensures { option_map M.made spare.new ≡ option_map M.made spare.old }
+{
+    let Some(spare) = spare else {
+        return;
+    };
+    let Some(store) = store else {
+        return;
+    };
+    M::tell_fault(spare, vault, store);
 }
 
 impl<M: VaultMaker> Keeper for ReopeningKeeper<M> {

@@ -14,7 +14,7 @@ use std::marker::Model;
 #[derive(Drop)]
 pub struct ReopenedKeeper<M: VaultMaker> {
     alloc: Global,
-    maker: M,
+    spare: M::Spare,
     store: KnownStore,
     vault: Option<M::Vault>,
     faults: u64,
@@ -34,13 +34,13 @@ impl<M: VaultMaker> Model for ReopenedKeeper<M> {
 
 impl<M: VaultMaker> ReopenedKeeper<M> {
     /// A keeper over the store. It starts with this number of faults, and the store isn't open.
-    pub fn new(alloc: Global, maker: M, store: KnownStore, faults: u64) -> ReopenedKeeper<M>
+    pub fn new(alloc: Global, spare: M::Spare, store: KnownStore, faults: u64) -> ReopenedKeeper<M>
         requires { HasShapes store }
         ensures { result ≡ record { known = store; faults = faults } }
     {
         ReopenedKeeper {
             alloc,
-            maker,
+            spare,
             store,
             vault: None,
             faults,
@@ -69,7 +69,7 @@ impl<M: VaultMaker> ReopenedKeeper<M> {
         if let Some(vault) = self.vault.take() {
             return Ok(vault);
         }
-        match self.maker.attach_again(self.alloc, &self.store) {
+        match M::attach_again(&mut self.spare, self.alloc, &self.store) {
             Ok(vault) => Ok(vault),
             Err(Stop::Keeper) => {
                 self.faults = self.faults.saturating_add(1);
@@ -99,7 +99,7 @@ impl<M: VaultMaker> ReopenedKeeper<M> {
                 Err(Stop::Memory)
             }
             Err(Stop::Keeper) => {
-                self.maker.tell_fault(&vault, &self.store);
+                M::tell_fault(&mut self.spare, &vault, &self.store);
                 self.faults = self.faults.saturating_add(1);
                 self.vault = if_it_answers(vault);
                 Err(Stop::Keeper)

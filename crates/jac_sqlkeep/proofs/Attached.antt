@@ -1,5 +1,5 @@
 -- A keeper that is attached to the database that was opened.
-use Rattle.std.proofs.Common.{◌≡◌, refl, sym, ap, subst, ◌∙◌, ℕ, ◌+◌, ◌≤◌, Bool, true, false, true≢false, List, [], length, Option, Some, None, is_some, Ok, Err, Result, IsTrue, IsSomeAnd, inl, inr, arith}
+use Rattle.std.proofs.Common.{◌≡◌, refl, sym, ap, subst, ◌∙◌, ℕ, ◌+◌, ◌≤◌, Bool, true, false, true≢false, List, [], length, Option, Some, None, is_some, Ok, Err, Result, IsTrue, IfSome, IsSomeAnd, inl, inr, arith}
 use Rattle.jac_value.specs.declared.value.Kind.{Kind}
 use Rattle.jac_io.specs.Faults.{Rose}
 use Rattle.jac_rows.specs.Good.{ModelShape}
@@ -14,8 +14,8 @@ use Rattle.jac_keep.proofs.SchemaLaws.{schema_one, length_shapes}
 use Rattle.sqlite_trees.specs.declared.store.Store.{Ghosts}
 use Rattle.sqlite.specs.Held.{Held}
 use Rattle.jac_keep.specs.declared.vault.AttachFault.TheVariants.{Failed, Memory, Other}
-use Rattle.jac_sqlkeep.specs.Based.{Based, OpensBased, Begins, Stood, ReshapesBased}
-use Rattle.jac_sqlkeep.specs.Kept.{Kept, seen_kept, tells_of, based_state, IsRefusedAs, BeginsGiven, StoodAs, IsLeftAs, LearnsSchema}
+use Rattle.jac_sqlkeep.specs.Based.{Based, OpensBased, Begins, Stood, KeepsText, ReshapesBased}
+use Rattle.jac_sqlkeep.specs.Kept.{Kept, seen_kept, tells_of, based_state, IsKnownAs, IsRefusedAs, BeginsGiven, StoodAs, IsLeftAs, LearnsSchema}
 
 -- Before it was called, its state wasn't known.
 untold : (database : Option Based) (called : Bool) → (IsTrue (is_some database) → IsTrue called) → called ≡ false → tells_of database ≡ false
@@ -134,3 +134,26 @@ pub learns_failed : (old new : Kept) (fault : AttachFault) → new.store.schema 
 learns_failed old new Failed schema uncounted other = schema
 learns_failed old new Memory schema uncounted other = (schema, uncounted refl)
 learns_failed old new (Other stored) schema uncounted other = absurd (other stored refl)
+
+-- ---- the schema that is known
+
+-- before it was called it had no database
+pub none_before : (database : Option Based) (called : Bool) → (IsTrue (is_some database) → IsTrue called) → called ≡ false → database ≡ None
+none_before None called known first = refl
+none_before (Some d) called known first = absurd (true≢false (sym (known refl) ∙ first))
+
+-- what is known of a database is known of it after a call that keeps its text
+pub still_known : (schema : Option (List ℕ)) (database : Option Based) (a b : Based) → database ≡ Some a → IfSome database (IsKnownAs schema) → KeepsText a b → IsKnownAs schema b
+still_known schema database a b some known keeps =
+    let was : IsKnownAs schema a = subst (λ (o : Option Based). IfSome o (IsKnownAs schema)) some known in
+    record { same = λ told. was.same (keeps.told_before told) ∙ ap (λ (x : List ℕ). Some x) (sym (keeps.same told)) }
+
+-- that of one which was opened
+pub begun_known : {S E : Type 0} (g : Ghosts S) (schema copy : List ℕ) (kinds : List (List Kind)) (nested : List Bool) (given : Held S) (b : Based) (r : Result (Option (List ℕ)) E) → OpensBased g schema kinds nested given b r → r ≡ Ok None → copy ≡ schema → IsKnownAs (Some copy) b
+begun_known g schema copy kinds nested given b r opens is copied =
+    let it : Begins g schema kinds nested given b = subst (OpensBased g schema kinds nested given b) is opens in
+    record { same = λ told. ap (λ (x : List ℕ). Some x) (copied ∙ sym (it.stored (sym it.tells ∙ told))) }
+
+-- that of one which was brought to another schema
+pub known_after : (change : Change) (schema copy : List ℕ) (models : ℕ) (a b : Based) → ReshapesBased change schema models a b (Ok tt) → copy ≡ schema → IsKnownAs (Some copy) b
+known_after change schema copy models a b reshapes copied = record { same = λ told. ap (λ (x : List ℕ). Some x) (copied ∙ sym (reshapes.stored told)) }

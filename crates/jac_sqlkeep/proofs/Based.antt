@@ -12,6 +12,7 @@ use Rattle.jac_rows.specs.Tables.{rows_of}
 use Rattle.jac_rows.specs.declared.row.Row.{Row}
 use Rattle.jac_rows.specs.declared.state.State.{State}
 use Rattle.jac_keep.specs.declared.alteration.Change.{Change}
+use Rattle.jac_keep.specs.Alterations.{ArePlaced}
 use Rattle.jac_keep.specs.ChangedState.{changed_state}
 use Rattle.jac_keep.specs.Records.{alternatives}
 use Rattle.jac_keep.specs.MatchingRecords.{holders}
@@ -20,17 +21,19 @@ use Rattle.jac_keep.specs.Reshaping.{widened_state}
 use Rattle.jac_keep.specs.Schema.{IsFit, shapes_by}
 use Rattle.jac_keep.proofs.SchemaLaws.{length_shapes, empties_fit}
 use Rattle.jac_sql_spec.specs.Told.{told, tables_in, schema_in}
-use Rattle.jac_sql_spec.specs.Statements.{statements_with}
+use Rattle.jac_sql_spec.specs.Statements.{sql_statements, statements_with}
 use Rattle.jac_sql_spec.specs.Telling.{empty_state, IsAllCommitted, ReadsTold, AppliesTold, ReshapesTold, CanBeStored}
-use Rattle.jac_sql_spec.specs.Transaction.{Transacts, EndsCommitted}
-use Rattle.jac_sql_spec.proofs.Kept.{reshape_told, schema_stands}
+use Rattle.jac_sql_spec.specs.Transaction.{Leaves, Transacts, EndsCommitted}
+use Rattle.jac_sql_spec.proofs.Exact.{change_exact}
+use Rattle.jac_sql_spec.proofs.Kept.{long_tables, reshape_told, schema_stands}
+use Rattle.jac_sql_spec.proofs.Sound.{kept_if_sound}
 use Rattle.jac_sql_spec.proofs.Stays.{clean_if_open}
 use Rattle.sqlite_schema.specs.declared.schema.Schema.{Schema}
 use Rattle.sqlite.specs.Effect.{Database}
-use Rattle.jac_sql_spec.specs.Lasting.{ConnectionLasts, IsSeenUnmoved}
+use Rattle.jac_sql_spec.specs.Lasting.{ConnectionLasts, IsSeenUnmoved, LeavesStoredTables}
 use Rattle.jac_sql_spec.specs.Stands.{Stands}
 use Rattle.jac_sql_spec.specs.Tables.{no_tables, two_tables}
-use Rattle.jac_sqlkeep.specs.Based.{Based, based_keeper, DatabaseGoesOn, HasTables, AreCommitted, Stood, IsStanding, TellsStanding, Begins, IsWhole, ReadsBased, AppliesBased, ReshapesBased}
+use Rattle.jac_sqlkeep.specs.Based.{Based, based_keeper, tables_seen, DatabaseGoesOn, HasTables, AreCommitted, Stood, IsStanding, IsStoreOf, KeepsText, TellsStanding, Begins, IsWhole, ReadsBased, AppliesBased, ReshapesBased}
 
 never : {A : Type 0} → IsTrue false → A
 never t = absurd (true≢false (sym t))
@@ -135,11 +138,11 @@ some_tables s has none = absurd (let e : two_tables 0 1 2 ≡ no_tables = sym ha
 
 module _ {S : Type 0} (g : Ghosts S) (kinds : List (List Kind)) (given h : Held S) where
   same_tables : (known : Bool) → (state g h).now ≡ (state g given).now → HasTables (state g given).now (based_keeper g kinds known h)
-  same_tables known same = record { meta = ap (λ (d : Database). d.trees 0) same; rec = ap (λ (d : Database). d.trees 1) same }
+  same_tables known same = record { meta = ap (λ (d : Database). d.trees 0) same; rec = ap (λ (d : Database). d.trees 1) same; all = ap tables_seen same }
 
   -- What is seen is what is committed.
   committed_as : (known : Bool) → (state g h).now ≡ (state g h).committed → AreCommitted (based_keeper g kinds known h)
-  committed_as known settled = record { meta = ap (λ (d : Database). d.trees 0) (sym settled); rec = ap (λ (d : Database). d.trees 1) (sym settled) }
+  committed_as known settled = record { meta = ap (λ (d : Database). d.trees 0) (sym settled); rec = ap (λ (d : Database). d.trees 1) (sym settled); all = ap tables_seen (sym settled) }
 
   -- A database that is left as it was.
   pub stood_by : (b : Based) → b ≡ based_keeper g kinds false h → ConnectionLasts (state g given) (state g h) → (IsTrue (state g h).is_open → IsTrue (state g given).is_open)
@@ -152,7 +155,7 @@ module _ {S : Type 0} (g : Ghosts S) (kinds : List (List Kind)) (given h : Held 
       let it = kept.told_by opened in
       record {
         database = (state g h).now;
-        has = record { meta = refl; rec = refl };
+        has = record { meta = refl; rec = refl; all = refl };
         stands = subst (λ (x : List ℕ). Stands x (state g h).now (told (length kinds) (state g h).now)) (sym (schema_stands it.schema (state g h).now (told (length kinds) (state g h).now) it.stands) ∙ stored opened) it.stands;
         settled = committed_as true (kept.settled opened);
       }
@@ -198,10 +201,68 @@ module _ {S : Type 0} (g : Ghosts S) (kinds : List (List Kind)) (given h : Held 
     sure = λ law. law h.store;
   }
 
+-- a store of another schema
+pub other_store : {S : Type 0} (g : Ghosts S) (kinds : List (List Kind)) (given h : Held S) (b : Based) (stored : List ℕ) → b ≡ based_keeper g kinds false h → (state g given).now.schema ≡ two_tables 0 1 2 → IsSeenUnmoved (state g given) (state g h)
+    → (IsTrue (state g h).is_open → schema_in (state g h).now ≡ stored) → IsTrue b.is_open → IsStoreOf stored b
+other_store g kinds given h b stored is has left found =
+    subst (λ (b : Based). IsTrue b.is_open → IsStoreOf stored b) (sym is) (λ opened. record { database = (state g given).now; has = same_tables g kinds given h false (left.same opened); form = has; stored = found opened })
+
 -- A database to which nothing was done.
 pub stood_here : {S : Type 0} (g : Ghosts S) (kinds : List (List Kind)) (h : Held S) (b : Based) → b ≡ based_keeper g kinds false h → (IsTrue (state g h).is_open → (state g h).now ≡ (state g h).committed) → Stood g h b
 stood_here g kinds h b is settled =
     stood_by g kinds h h b is (record { clean = omega arith; counts = omega arith; closes = λ clean opened. inl opened }) (λ opened. opened) (λ opened. refl) settled
+
+-- ---- the schema text from call to call
+
+pub text_same : (b : Based) → KeepsText b b
+text_same b = record { told_before = λ u. u; same = λ u. refl }
+
+module _ {S : Type 0} (g : Ghosts S) (kinds : List (List Kind)) (old new : Held S) where
+  -- a database that was read has the text that it had
+  text_read : IsAllCommitted (length kinds) (state g old) → LeavesStoredTables (state g old) (state g new) → KeepsText (based_keeper g kinds true old) (based_keeper g kinds true new)
+  text_read was leaves =
+      let left = leaves (λ opened. (was.told_by opened).stands.schema_is) was.settled in
+      record { told_before = left.was_open; same = λ opened. ap schema_in (left.same opened) }
+
+  pub text_left : (known : Bool) → (IsTrue known → IsAllCommitted (length kinds) (state g old)) → LeavesStoredTables (state g old) (state g new) → KeepsText (based_keeper g kinds known old) (based_keeper g kinds known new)
+  text_left false was leaves = record { told_before = λ u. never u; same = λ u. never u }
+  text_left true was leaves = text_read (was refl) leaves
+
+  module _ (change : Change) (law : (state g new).is_clean ≡ false → (state g new).is_open ≡ false) (ends : HasCleanDisk (state g new) → EndsCommitted (state g old) (state g new)) where
+    at_end : IsTrue (state g new).is_open → EndsCommitted (state g old) (state g new)
+    at_end opened = ends (clean_if_open (state g new) law opened)
+
+    -- one that a change was applied to, too
+    text_done : IsAllCommitted (length kinds) (state g old) → (db : Database) → IsTrue (state g old).is_open → CanBeStored (length kinds) change.changed → Leaves g (sql_statements change) old db → schema_in db ≡ schema_in (state g old).now
+    text_done was db opened may left =
+        let it = was.told_by opened in
+        let s = told (length kinds) (state g old).now in
+        let long : length s.tables ≡ length kinds = long_tables 0 (length kinds) _ in
+        let st = change_exact g it.schema old old s it.stands (kept_if_sound s it.sound) change db may.narrow may.own (subst (ArePlaced change.changed) (sym long) may.placed) left in
+        schema_stands it.schema db (changed_state change s) st ∙ sym (schema_stands it.schema (state g old).now s it.stands)
+
+    text_changed : (r : Result (Unit {0}) Error) → IsAllCommitted (length kinds) (state g old) → OnOk r (CanBeStored (length kinds) change.changed) → Transacts g (sql_statements change) old new r → KeepsText (based_keeper g kinds true old) (based_keeper g kinds true new)
+    text_changed (Ok done) was may t = record {
+      told_before = λ opened. (at_end opened).was_open opened;
+      same = λ opened. ap schema_in ((at_end opened).settled opened) ∙ text_done was (state g new).committed ((at_end opened).was_open opened) may (t.all (clean_if_open (state g new) law opened));
+    }
+    text_changed (Err e) was may t = record {
+      told_before = λ opened. (at_end opened).was_open opened;
+      same = λ opened. ap schema_in (t.none (clean_if_open (state g new) law opened) opened).0;
+    }
+
+    pub text_applied : (r : Result (Unit {0}) Error) (known : Bool) → (IsTrue known → IsAllCommitted (length kinds) (state g old)) → OnOk r (CanBeStored (length kinds) change.changed) → Transacts g (sql_statements change) old new r
+        → KeepsText (based_keeper g kinds known old) (based_keeper g kinds known new)
+    text_applied r false was may t = record { told_before = λ u. never u; same = λ u. never u }
+    text_applied r true was may t = text_changed r (was refl) may t
+
+    -- one that refused to be brought to another schema
+    pub text_refused : (schema : List ℕ) (e : Error) (known : Bool) → Transacts {T = Unit {0}} g (statements_with change (Some schema)) old new (Err e) → KeepsText (based_keeper g kinds known old) (based_keeper g kinds known new)
+    text_refused schema e false t = record { told_before = λ u. never u; same = λ u. never u }
+    text_refused schema e true t = record {
+      told_before = λ opened. (at_end opened).was_open opened;
+      same = λ opened. ap schema_in (t.none (clean_if_open (state g new) law opened) opened).0;
+    }
 
 -- ---- from call to call
 

@@ -1,9 +1,11 @@
 -- What contracts see of a keeper's database.
-use Rattle.std.specs.Prelude.{◌≡◌, ◌≤◌, ◌⊎◌, ℕ, Bool, ◌&&◌, List, length, Option, Some, None, IsTrue, Result, Ok, Err, IfOk, OnOk, OnErr}
+use Rattle.std.specs.Prelude.{◌≡◌, ◌≤◌, ◌⊎◌, ℕ, Bool, ◌&&◌, List, length, map, Option, Some, None, IsTrue, Result, Ok, Err, IfOk, OnOk, OnErr}
 use Rattle.sqlite_trees.specs.declared.store.Store.{Ghosts}
 use Rattle.sqlite_trees.specs.View.{doubt}
-use Rattle.sqlite_value.specs.Order.{Row as Values}
 use Rattle.sqlite.specs.declared.error.Error.{Error}
+use Rattle.sqlite_value.specs.Order.{Row as Values}
+use Rattle.sqlite_schema.specs.declared.schema.Column.{Column}
+use Rattle.sqlite_schema.specs.declared.schema.Table.{Table}
 use Rattle.sqlite.specs.Effect.{Database as Tables}
 use Rattle.sqlite.specs.Held.{Held, state}
 use Rattle.sqlite.specs.State.{HasCleanDisk}
@@ -16,13 +18,28 @@ use Rattle.jac_keep.specs.ChangedState.{changed_state}
 use Rattle.jac_keep.specs.Reshaping.{widened_state}
 use Rattle.jac_keep.specs.Schema.{IsFit, shapes_by}
 use Rattle.jac_sql_spec.specs.Stands.{Stands}
-use Rattle.jac_sql_spec.specs.Tables.{no_tables}
+use Rattle.jac_sql_spec.specs.Tables.{no_tables, two_tables}
 use Rattle.jac_sql_spec.specs.Telling.{empty_state, IsAllCommitted}
 use Rattle.jac_sql_spec.specs.Told.{told, schema_in}
 
+-- A table: its name, the names of its columns, and its rows.
+pub record TableSeen : Type 0 where
+  pub name : List ℕ
+  pub columns : List (List ℕ)
+  pub rows : List Values
+
+-- All tables of a database.
+abbrev pub tables_seen : Tables → List TableSeen
+tables_seen db = map (λ (t : Table). record {
+  name = t.name;
+  columns = map (λ (c : Column). c.name) t.columns;
+  rows = db.trees t.tree;
+}) db.schema.tables
+
 -- The kinds of its models' fields. Whether its connection is open, whether its disk has returned
--- what was written, and how often that failed. Its schema text. The rows of its two tables, as they
--- are seen and as they are committed. Whether its state is known, and its state.
+-- what was written, and how often that failed. Its schema text. The rows of the two tables of a
+-- store, and all tables, as they are seen and as they are committed. Whether its state is known,
+-- and its state.
 pub record Based : Type 0 where
   pub kinds : List (List Kind)
   pub is_open : Bool
@@ -31,8 +48,10 @@ pub record Based : Type 0 where
   pub schema : List ℕ
   pub meta : List Values
   pub rec : List Values
+  pub tables : List TableSeen
   pub committed_meta : List Values
   pub committed_rec : List Values
+  pub committed_tables : List TableSeen
   pub tells : Bool
   pub state : State
 
@@ -46,8 +65,10 @@ based_keeper g kinds known h = record {
   schema = schema_in (state g h).now;
   meta = (state g h).now.trees 0;
   rec = (state g h).now.trees 1;
+  tables = tables_seen (state g h).now;
   committed_meta = (state g h).committed.trees 0;
   committed_rec = (state g h).committed.trees 1;
+  committed_tables = tables_seen (state g h).committed;
   tells = known && (state g h).is_open;
   state = told (length kinds) (state g h).now;
 }
@@ -56,18 +77,20 @@ based_keeper g kinds known h = record {
 abbrev pub NeverShut : {S : Type 0} → Ghosts S → Type 0
 NeverShut {S} g = (s : S) → IsTrue (g.view s).is_open
 
--- The rows of both tables are those of `db`.
+-- The tables are those of `db`.
 pub record HasTables (db : Tables) (b : Based) : Type 0 where
   pub meta : b.meta ≡ db.trees 0
   pub rec : b.rec ≡ db.trees 1
+  pub all : b.tables ≡ tables_seen db
 
--- The rows of both tables are committed as they are seen.
+-- The tables are committed as they are seen.
 pub record AreCommitted (b : Based) : Type 0 where
   pub meta : b.committed_meta ≡ b.meta
   pub rec : b.committed_rec ≡ b.rec
+  pub all : b.committed_tables ≡ b.tables
 
--- As long as the connection is open, the rows of both tables are those that were given, and they
--- are committed. Only a fault of the disk shuts the connection.
+-- As long as the connection is open, all tables are those that were given, and they are committed.
+-- Only a fault of the disk shuts the connection.
 pub record Stood {S : Type 0} (g : Ghosts S) (given : Held S) (b : Based) : Type 0 where
   pub was_open : IsTrue b.is_open → IsTrue (state g given).is_open
   pub kept : IsTrue b.is_open → HasTables (state g given).now b
@@ -76,21 +99,21 @@ pub record Stood {S : Type 0} (g : Ghosts S) (given : Held S) (b : Based) : Type
       → IsTrue b.is_open ⊎ Rose (state g given).faults b.faults
   pub sure : NeverShut g → IsTrue b.is_open
 
--- The rows of both tables are well formed: they represent the state, with this schema text. They
--- are also committed.
+-- The whole database is well formed: it has the two tables of a store and no others, and their rows
+-- represent the state, with this schema text. It is also committed.
 pub record IsStanding (schema : List ℕ) (b : Based) : Type 0 where
   pub database : Tables
   pub has : HasTables database b
   pub stands : Stands schema database b.state
   pub settled : AreCommitted b
 
--- If the state is known, the rows are well formed, with the database's schema text, and committed.
+-- If the state is known, the database is well formed, with its schema text, and committed.
 abbrev pub TellsStanding : Based → Type 0
 TellsStanding b = IsTrue b.tells → IsStanding b.schema b
 
 -- From one call to a later one: if the state was known, it is known while the connection is open. A
 -- shut connection is never opened again. No fault is forgotten. Only a fault of the disk shuts the
--- connection. The rows stay well formed and committed.
+-- connection. The database stays well formed and committed.
 pub record DatabaseGoesOn {S : Type 0} (g : Ghosts S) (old new : Based) : Type 0 where
   pub tells : IsTrue old.tells → IsTrue new.is_open → IsTrue new.tells
   pub opens : IsTrue new.is_open → IsTrue old.is_open
@@ -102,9 +125,9 @@ pub record DatabaseGoesOn {S : Type 0} (g : Ghosts S) (old new : Based) : Type 0
   pub standing : TellsStanding old → TellsStanding new
 
 -- A database that may be called. While its connection is open, it has the schema, and its state is
--- known and fits the schema. Its rows are well formed and committed. If there was no table, it was
--- made empty and with the number 1. Otherwise its rows and its state are those that were stored,
--- read from a disk that had returned what was written.
+-- known and fits the schema. It is well formed and committed. If there was no table, it was made
+-- empty and with the number 1. Otherwise its tables and its state are those that were stored.
+-- They were read from a disk that had returned what was written.
 pub record Begins {S : Type 0} (g : Ghosts S) (schema : List ℕ) (kinds : List (List Kind))
     (nested : List Bool) (given : Held S) (b : Based) : Type 0 where
   pub tells : b.tells ≡ b.is_open
@@ -125,13 +148,20 @@ pub record Begins {S : Type 0} (g : Ghosts S) (schema : List ℕ) (kinds : List 
       → IsTrue b.is_open ⊎ Rose (state g given).faults b.faults
   pub sure : NeverShut g → IsTrue b.is_open
 
+-- The database has the tables of a store, and no others, and this schema text.
+pub record IsStoreOf (schema : List ℕ) (b : Based) : Type 0 where
+  pub database : Tables
+  pub has : HasTables database b
+  pub form : database.schema ≡ two_tables 0 1 2
+  pub stored : b.schema ≡ schema
+
 -- What opening a database gives: a database that may be called, or one that is left as it was and
 -- whose state isn't known, because it has another schema or can't be read.
 abbrev pub OpensBased : {S E : Type 0} → Ghosts S → List ℕ → List (List Kind) → List Bool → Held S
     → Based → Result (Option (List ℕ)) E → Type 0
 OpensBased g schema kinds nested given b (Ok None) = Begins g schema kinds nested given b
 OpensBased g schema kinds nested given b (Ok (Some stored)) =
-    (¬ (stored ≡ schema)) × (IsTrue b.is_open → b.schema ≡ stored) × Stood g given b
+    (¬ (stored ≡ schema)) × (IsTrue b.is_open → IsStoreOf stored b) × Stood g given b
 OpensBased g schema kinds nested given b (Err e) = Stood g given b
 
 -- The whole database was read, and its state is known.
@@ -157,6 +187,11 @@ pub record ReadsBased {T : Type 0} (Is : State → T → Type 0) (old new : Base
   pub same_state : IsTrue new.tells → new.state ≡ old.state
   pub good : IsTrue new.tells → IsSound new.state
   pub exact : IsTrue new.tells → IfOk result (Is old.state)
+
+-- If the state is known, it was known before, and the schema text is the one before.
+pub record KeepsText (old new : Based) : Type 0 where
+  pub told_before : IsTrue new.tells → IsTrue old.tells
+  pub same : IsTrue new.tells → new.schema ≡ old.schema
 
 -- If the call succeeded, the change was applied. Otherwise nothing was changed.
 pub record AppliesBased (change : Change) (old new : Based) (result : Result (Unit {0}) Error) :

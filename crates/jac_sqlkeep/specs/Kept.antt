@@ -9,7 +9,7 @@ use Rattle.jac_keep.specs.KeeperSeen.{KeeperSeen, Store}
 use Rattle.jac_keep.specs.Schema.{IsSchema, shapes_by}
 use Rattle.jac_keep.specs.declared.vault.AttachFault.{AttachFault}
 use Rattle.jac_keep.specs.declared.vault.AttachFault.TheVariants.{Failed, Memory, Other}
-use Rattle.jac_sqlkeep.specs.Based.{Based, DatabaseGoesOn, Begins, Stood, TellsStanding}
+use Rattle.jac_sqlkeep.specs.Based.{Based, DatabaseGoesOn, Begins, Stood, IsStoreOf, TellsStanding}
 
 -- Its store. How often it failed, and how often its opener failed. How many connections the opener
 -- gave. Its database, if it is attached, and the database that was refused, if there is one.
@@ -71,13 +71,25 @@ IsRefusedAs old new database stored (Err (Other told)) =
 abbrev pub HasSchema : List ℕ → Based → Type 0
 HasSchema schema b = IsTrue b.is_open → b.schema ≡ schema
 
+-- As long as the connection is open, the database is a store with this schema text.
+abbrev pub HasStore : List ℕ → Based → Type 0
+HasStore schema b = IsTrue b.is_open → IsStoreOf schema b
+
 -- If its state is known, the database has this schema text.
 abbrev pub TellsSchema : List ℕ → Based → Type 0
 TellsSchema schema b = IsTrue b.tells → b.schema ≡ schema
 
--- As long as the state of its database is known, the rows of that are well formed and committed.
-abbrev pub HasStandingRows : Kept → Type 0
-HasStandingRows k = IfSome k.database TellsStanding
+-- As long as the state of its database is known, the database is well formed and committed.
+abbrev pub HasStandingDatabase : Kept → Type 0
+HasStandingDatabase k = IfSome k.database TellsStanding
+
+-- As long as the state of the database is known, this is its schema text.
+pub record IsKnownAs (schema : Option (List ℕ)) (b : Based) : Type 0 where
+  pub same : IsTrue b.tells → schema ≡ Some b.schema
+
+-- As long as the state of its database is known, the store's schema is the text in the database.
+abbrev pub KnowsSchema : Kept → Type 0
+KnowsSchema k = IfSome k.database (IsKnownAs k.store.schema)
 
 -- A database that may be called, over a connection that the opener gave.
 pub record BeginsGiven {S : Type 0} (g : Ghosts S) (Gives : Held S → Type 0) (schema : List ℕ)

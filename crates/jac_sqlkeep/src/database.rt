@@ -1,5 +1,5 @@
 //! A database with the tables of a keeper.
-ghost use Rattle.std.specs.Prelude.{◌≡◌, false, length, Err, IfOk, IfErr, IsTrue};
+ghost use Rattle.std.specs.Prelude.{◌≡◌, false, length, Err, IfOk, IfErr, OnErr, IsTrue};
 ghost use Rattle.sqlite.specs.Held.{state};
 ghost use Rattle.sqlite.specs.State.{IsLive};
 ghost use Rattle.jac_value.specs.Ids.{model_of_id};
@@ -12,7 +12,7 @@ ghost use Rattle.jac_keep.specs.Reshaping.{widened_state};
 ghost use Rattle.jac_keep.specs.Schema.{IsFit, shapes_by};
 ghost use Rattle.jac_sql_spec.specs.Lasting.{ConnectionLasts, IsSeenUnmoved};
 ghost use Rattle.jac_sql_spec.specs.Tables.{no_tables, two_tables};
-ghost use Rattle.jac_sqlkeep.specs.Based.{DatabaseGoesOn, ReadsBased, AppliesBased, ReshapesBased, OpensBased, ReadsWhole, TellsStanding, based_keeper};
+ghost use Rattle.jac_sqlkeep.specs.Based.{DatabaseGoesOn, ReadsBased, AppliesBased, ReshapesBased, OpensBased, ReadsWhole, KeepsText, TellsStanding, based_keeper};
 
 use crate::cause::{CORRUPT, NO_MEMORY, Unfit};
 use crate::form::has_form;
@@ -185,7 +185,7 @@ impl<S: Alter> Database<S> {
         self.known = false;
     }
 
-    /// A law: as long as its state is known, its rows are well formed and committed.
+    /// A law: as long as its state is known, it is well formed and committed.
     pub fn rows_stand(&self)
         ensures { TellsStanding self.now }
     {
@@ -195,6 +195,7 @@ impl<S: Alter> Database<S> {
     pub fn number(&mut self) -> Result<u64, Error>
         ensures in_range { IfOk result IsNext }
         ensures reads { ReadsBased (λ s n. n ≡ s.number) self.old self.new result }
+        ensures text { KeepsText self.old self.new }
         ensures goes { DatabaseGoesOn S.Store self.old self.new }
     {
         read_number(&mut self.conn)
@@ -204,6 +205,7 @@ impl<S: Alter> Database<S> {
     pub fn rows(&mut self, alloc: Global, model: u8) -> Result<Rows, Error>
         ensures reads { ReadsBased (λ s rows. rows ≡ rows_of s.tables model)
             self.old self.new result }
+        ensures text { KeepsText self.old self.new }
         ensures goes { DatabaseGoesOn S.Store self.old self.new }
     {
         match kinds_of(&self.shape, model) {
@@ -216,6 +218,7 @@ impl<S: Alter> Database<S> {
         ensures reads { ReadsBased
             (λ s rows. rows ≡ alternatives id (rows_of s.tables (model_of_id id)))
             self.old self.new result }
+        ensures text { KeepsText self.old self.new }
         ensures goes { DatabaseGoesOn S.Store self.old self.new }
     {
         match kinds_of(&self.shape, id_model(id)) {
@@ -235,6 +238,7 @@ impl<S: Alter> Database<S> {
         ensures reads { ReadsBased
             (λ s rows. rows ≡ holders field value.now (rows_of s.tables model))
             self.old self.new result }
+        ensures text { KeepsText self.old self.new }
         ensures goes { DatabaseGoesOn S.Store self.old self.new }
     {
         let rows = self.rows(alloc, model);
@@ -244,6 +248,7 @@ impl<S: Alter> Database<S> {
     pub fn apply(&mut self, alloc: Global, change: &Change) -> Result<(), Error>
         requires good { IsTrue self.old.tells → IsSound (changed_state change.now self.old.state) }
         ensures applies { AppliesBased change.now self.old self.new result }
+        ensures text { KeepsText self.old self.new }
         ensures goes { DatabaseGoesOn S.Store self.old self.new }
     {
         let models = self.shape.kinds.as_slice().len();
@@ -262,6 +267,7 @@ impl<S: Alter> Database<S> {
             (widened_state (length shape.kinds) (changed_state change.now self.old.state)) }
         ensures reshapes { ReshapesBased change.now schema.now (length shape.kinds)
             self.old self.new result }
+        ensures text { OnErr result (KeepsText self.old self.new) }
         ensures goes { DatabaseGoesOn S.Store self.old self.new }
     {
         let models = self.shape.kinds.as_slice().len();

@@ -1,4 +1,4 @@
-ghost use Rattle.std.specs.Prelude.{◌≡◌, ◌≤◌, ◌^◌, ◌||◌, ℕ, List, Option, Err, IfOk, OnOk, OnErr, IsSomeAnd, IsTrue, true, false, is_some, length};
+ghost use Rattle.std.specs.Prelude.{◌≡◌, ◌≤◌, ◌^◌, ◌||◌, ℕ, List, Option, Some, None, Err, IfOk, OnOk, OnErr, IsSomeAnd, IsTrue, true, false, is_some, length};
 ghost use Rattle.std.specs.Option.{option_copied};
 ghost use Rattle.jac_value.specs.Ids.{model_of_id};
 ghost use Rattle.jac_io.specs.Faults.{Rose};
@@ -12,8 +12,7 @@ ghost use Rattle.jac_keep.specs.Reshaping.{widened_state, Reshapes};
 ghost use Rattle.jac_keep.specs.Schema.{IsSchema, IsFit, shapes_by};
 ghost use Rattle.jac_keep.specs.Attaching.{Attaches};
 ghost use Rattle.jac_keep.specs.declared.vault.AttachFault.TheVariants.{Other};
-ghost use Rattle.jac_sqlkeep.specs.Based.{Based};
-ghost use Rattle.jac_sqlkeep.specs.Kept.{HasSchema, TellsSchema, IsRefusedAs, BeginsGiven, IsLeftAs, LearnsSchema, KeeperGoesOn};
+ghost use Rattle.jac_sqlkeep.specs.Kept.{HasSchema, HasStore, TellsSchema, IsKnownAs, IsRefusedAs, BeginsGiven, IsLeftAs, LearnsSchema, KeeperGoesOn};
 
 use crate::Opener;
 use crate::cause::{Unfit, error_of, stop_of};
@@ -44,14 +43,15 @@ pub struct SqlKeeper<O: Opener> {
 }
 
 impl<O: Opener> Model for SqlKeeper<O> {
-    ghost use Rattle.std.specs.Prelude.{is_some, IsTrue};
-    ghost use Rattle.jac_sqlkeep.specs.Kept.{Kept};
+    ghost use Rattle.std.specs.Prelude.{is_some, IsTrue, IfSome};
+    ghost use Rattle.jac_sqlkeep.specs.Kept.{Kept, IsKnownAs};
 
     ghost Value = { Kept };
 
     ghost view = { λ k. record { store = record { called = k.called; attached = is_some k.database; schema = k.schema; name = k.name }; faults = k.faults; unopened = O.faults k.opener; given = O.gave k.opener; database = k.database; refused = k.refused } };
 
-    ghost invariant = { λ k. IsTrue (is_some k.database) → IsTrue k.called };
+    ghost invariant = { λ k. (IsTrue (is_some k.database) → IsTrue k.called)
+        × IfSome k.database (IsKnownAs k.schema) };
 }
 
 impl<O: Opener> SqlKeeper<O> {
@@ -74,7 +74,9 @@ impl<O: Opener> SqlKeeper<O> {
         }
     }
 
-    pub fn opener(&self) -> &O {
+    pub fn opener(&self) -> &O
+        ensures { O.gave result.now ≡ self.now.given }
+    {
         &self.opener
     }
 
@@ -85,7 +87,7 @@ impl<O: Opener> SqlKeeper<O> {
 }
 
 impl<O: Opener> SqlKeeper<O> {
-    ghost use Rattle.jac_sqlkeep.specs.Kept.{seen_kept, HasStandingRows};
+    ghost use Rattle.jac_sqlkeep.specs.Kept.{seen_kept, HasStandingDatabase, KnowsSchema};
 
     pub fn is_attached(&self) -> bool
         ensures { result ≡ self.now.store.attached }
@@ -105,14 +107,21 @@ impl<O: Opener> SqlKeeper<O> {
         self.error
     }
 
-    /// A law: as long as the state of its database is known, the rows of that are well formed and
+    /// A law: as long as the state of its database is known, the database is well formed and
     /// committed.
     pub fn rows_stand(&self)
-        ensures { HasStandingRows self.now }
+        ensures { HasStandingDatabase self.now }
     {
         if let Some(database) = &self.database {
             database.rows_stand();
         }
+    }
+
+    /// A law: as long as the state of its database is known, its schema is the text in that.
+    pub fn schema_stands(&self)
+        ensures { KnowsSchema self.now }
+    {
+        let _ = &self.database;
     }
 
     /// Makes the state unknown from then on.
@@ -162,6 +171,7 @@ impl<O: Opener> Keeper for SqlKeeper<O> {
     /// the connection.
     ghost goes = { keeper_goes_on O.Store.Store };
 
+    #[tactic(auto, using(crate::proofs::Attached::still_known))]
     fn number(&mut self) -> Result<u64, Stop>
         requires { IsTrue self.old.store.attached }
         ensures exact { IsTrue (seen_kept self.new).tells
@@ -182,6 +192,7 @@ impl<O: Opener> Keeper for SqlKeeper<O> {
         }
     }
 
+    #[tactic(auto, using(crate::proofs::Attached::still_known))]
     fn rows(&mut self, alloc: Global, model: u8) -> Result<Rows, Stop>
         requires { IsTrue self.old.store.attached }
         ensures exact { IsTrue (seen_kept self.new).tells
@@ -201,6 +212,7 @@ impl<O: Opener> Keeper for SqlKeeper<O> {
         }
     }
 
+    #[tactic(auto, using(crate::proofs::Attached::still_known))]
     fn one(&mut self, alloc: Global, id: Id) -> Result<Rows, Stop>
         requires { IsTrue self.old.store.attached }
         ensures exact { IsTrue (seen_kept self.new).tells
@@ -222,6 +234,7 @@ impl<O: Opener> Keeper for SqlKeeper<O> {
     }
 
     /// Reads the whole table, and finds the records in it.
+    #[tactic(auto, using(crate::proofs::Attached::still_known))]
     fn rows_with(
         &mut self,
         alloc: Global,
@@ -248,6 +261,7 @@ impl<O: Opener> Keeper for SqlKeeper<O> {
         }
     }
 
+    #[tactic(auto, using(crate::proofs::Attached::still_known))]
     fn apply(&mut self, alloc: Global, change: &Change) -> Result<(), Stop>
         requires attached { IsTrue self.old.store.attached }
         requires good { IsTrue (seen_kept self.old).tells
@@ -278,7 +292,7 @@ impl<O: Opener> Vault for SqlKeeper<O> {
 
     /// Reads and tests all of a store that was made before. A database that isn't a store is left
     /// as it is.
-    #[tactic(auto, using(crate::proofs::Attached::learns_failed, crate::proofs::Attached::left_unopened))]
+    #[tactic(auto, using(crate::proofs::Attached::learns_failed, crate::proofs::Attached::left_unopened, crate::proofs::Attached::begun_known, crate::proofs::Attached::none_before))]
     fn attach(&mut self, alloc: Global, name: Option<&Txt>, schema: &Txt) -> Result<(), AttachFault>
         requires first { self.old.store.called ≡ false }
         requires schema { (shapes : List ModelShape) × IsSchema schema.now shapes }
@@ -286,7 +300,7 @@ impl<O: Opener> Vault for SqlKeeper<O> {
             (option_copied name.entry) schema.now result }
         ensures stored { OnOk result (IsSomeAnd self.new.database (HasSchema schema.now)) }
         ensures other_stored { (stored : List ℕ) → result ≡ Err (Other stored)
-            → IsSomeAnd self.new.refused (HasSchema stored) }
+            → IsSomeAnd self.new.refused (HasStore stored) }
         ensures begins { OnOk result (IsSomeAnd self.new.database
             (BeginsGiven O.Store.Store (O.gives (option_copied name.entry)) schema.now)) }
         ensures left { IsLeftAs O.Store.Store (O.gives (option_copied name.entry)) self.old self.new
@@ -317,6 +331,7 @@ impl<O: Opener> Vault for SqlKeeper<O> {
         }
     }
 
+    #[tactic(auto, using(crate::proofs::Attached::still_known, crate::proofs::Attached::known_after))]
     fn reshape(&mut self, alloc: Global, change: &Change, schema: &Txt) -> Result<(), Stop>
         requires attached { IsTrue self.old.store.attached }
         requires schema { (shapes : List ModelShape) × IsSchema schema.now shapes
@@ -355,7 +370,8 @@ impl<O: Opener> Vault for SqlKeeper<O> {
 impl<O: Opener> SqlKeeper<O> {
     // Makes the database that of the keeper.
     fn begin(&mut self, database: Database<O::Store>, name: Option<Txt>, schema: Txt)
-        requires { IsTrue self.old.store.called }
+        requires called { IsTrue self.old.store.called }
+        requires known { IsKnownAs (Some schema) database }
         ensures { self.new ≡ record self.old {
           store = record {
             called = self.old.store.called;
@@ -378,6 +394,7 @@ impl<O: Opener> SqlKeeper<O> {
         database: Database<O::Store>,
         stored: Txt,
     ) -> Result<(), AttachFault>
+        requires none { self.old.database ≡ None }
         ensures refused { IsRefusedAs self.old self.new database stored result }
     {
         self.refused = Some(database);

@@ -13,7 +13,7 @@ ghost use Rattle.jac_row_codec.specs.Faults.{CanBeSpelled};
 ghost use Rattle.jac_row_codec.specs.Spelling.{guard_bytes, cells_bytes};
 ghost use Rattle.jac_keep.specs.Alterations.{ArePlaced};
 ghost use Rattle.jac_keep.specs.Records.{alternatives};
-ghost use Rattle.jac_sql_spec.specs.Lasting.{ConnectionLasts};
+ghost use Rattle.jac_sql_spec.specs.Lasting.{ConnectionLasts, LeavesStoredTables};
 ghost use Rattle.jac_sql_spec.specs.Reading.{AreShown, Each, IsModelRow, IsRecordRow, IsRowIn};
 ghost use Rattle.jac_sql_spec.specs.Statements.{SqlStatement, model_reading, record_reading, removal, addition, replacement, replacements, statements_with};
 ghost use Rattle.jac_sql_spec.specs.Stands.{AreNarrow};
@@ -55,6 +55,7 @@ pub fn read_model<S: Alter>(
     ensures told { (models : _) → IsAllCommitted models (state S.Store conn.old)
         → ReadsTold S.Store (λ s rows. rows ≡ rows_of s.tables model) models conn.old conn.new
         result }
+    ensures left { LeavesStoredTables (state S.Store conn.old) (state S.Store conn.new) }
     ensures lasts { ConnectionLasts (state S.Store conn.old) (state S.Store conn.new) }
     ensures opens { IsTrue (state S.Store conn.new).is_open
         → IsTrue (state S.Store conn.old).is_open }
@@ -77,6 +78,7 @@ pub fn read_record<S: Alter>(
     ensures told { (models : _) → IsAllCommitted models (state S.Store conn.old)
         → ReadsTold S.Store (λ s rows. rows ≡ alternatives id (rows_of s.tables (model_of_id id)))
         models conn.old conn.new result }
+    ensures left { LeavesStoredTables (state S.Store conn.old) (state S.Store conn.new) }
     ensures lasts { ConnectionLasts (state S.Store conn.old) (state S.Store conn.new) }
     ensures opens { IsTrue (state S.Store conn.new).is_open
         → IsTrue (state S.Store conn.old).is_open }

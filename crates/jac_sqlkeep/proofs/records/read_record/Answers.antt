@@ -4,7 +4,8 @@ use Rattle.jac_sql_spec.proofs.ReadRows.{record_told}
 use Rattle.jac_sqlkeep.proofs.Read.{are_shown}
 use Rattle.sqlite.specs.Held.{state}
 use Rattle.jac_sql_spec.proofs.Lasting.{lasts_of}
-use Rattle.jac_sqlkeep.proofs.Opened.{opened_by_rows}
+use Rattle.jac_sqlkeep.proofs.Opened.{opened_by_rows, left_by_rows}
+use Rattle.jac_sql_spec.proofs.Texts.{record_plain}
 use Rattle.jac_sqlkeep.proofs.records.read_record.Goals as goal
 
 pub returns-clause-shown : goal.returns-clause-shown
@@ -29,4 +30,10 @@ returns-clause-lasts g c = lasts_of (state g.S.Store c.args.conn.now) (state g.S
 pub returns-clause-opens : goal.returns-clause-opens
 returns-clause-opens g c =
     opened_by_rows (state g.S.Store c.args.conn.now) (state g.S.Store c.query_all-found.new.self) (g.met.S.Store.shut_if_dirty c.query_all-found.new.self.store) (λ v. v.items) _ _ c.query_all-found.result c.query_all-found.ensures.ok
+    c.query_all-found.ensures.err
+
+pub returns-clause-left : goal.returns-clause-left
+unfolding record_reading
+returns-clause-left g c =
+    left_by_rows (state g.S.Store c.args.conn.now) (state g.S.Store c.query_all-found.new.self) (g.met.S.Store.shut_if_dirty c.query_all-found.new.self.store) (λ v. v.items) _ _ record_plain.0 c.query_all-found.result c.query_all-found.ensures.ok
     c.query_all-found.ensures.err

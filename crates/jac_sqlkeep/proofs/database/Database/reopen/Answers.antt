@@ -1,5 +1,5 @@
 use Rattle.sqlite.specs.Held.{state}
-use Rattle.jac_sqlkeep.proofs.Based.{begins_again, stood_by}
+use Rattle.jac_sqlkeep.proofs.Based.{begins_again, stood_by, other_store}
 use Rattle.jac_sqlkeep.proofs.database.Database.reopen.Goals as goal
 
 pub invariant_of-result : goal.invariant_of-result
@@ -13,7 +13,7 @@ pub returns-in-Ok-Some : goal.returns-in-Ok-Some
 returns-in-Ok-Some g c =
     let read = rw c.in-Ok-Some.field-0-is at c.in-Ok-Some.ensures.read in
     let left = c.in-Ok-Some.ensures.left in
-    (read.0, rw c.untold.ensures read.1, stood_by g.S.Store c.args.shape.kinds c.args.conn c.read_whole.new.conn c.untold.result c.untold.ensures c.in-Ok-Some.ensures.lasts left.was_open left.same left.settled)
+    (read.0, other_store g.S.Store c.args.shape.kinds c.args.conn c.read_whole.new.conn c.untold.result c.in-Ok-Some.stored c.untold.ensures c.requires.form left read.1, stood_by g.S.Store c.args.shape.kinds c.args.conn c.read_whole.new.conn c.untold.result c.untold.ensures c.in-Ok-Some.ensures.lasts left.was_open left.same left.settled)
 
 pub returns-in-Err : goal.returns-in-Err
 returns-in-Err g c =

@@ -6,7 +6,7 @@ use Rattle.sqlite.specs.Held.{state}
 use Rattle.jac_sql_spec.proofs.Lasting.{lasts_of}
 use Rattle.jac_sql_spec.proofs.Stays.{clean_if_open}
 use Rattle.jac_sqlkeep.specs.Based.{Based}
-use Rattle.jac_sqlkeep.proofs.Based.{reshaped_told, reshapes_ok, reshapes_err, goes_by}
+use Rattle.jac_sqlkeep.proofs.Based.{reshaped_told, reshapes_ok, reshapes_err, text_refused, goes_by}
 use Rattle.jac_sqlkeep.proofs.database.Database.reshape.Goals as goal
 
 pub invariant_of-self : goal.invariant_of-self
@@ -56,3 +56,9 @@ returns-in-Err-clause-goes g c =
     rw (← c.self.view_is)
     (goes_by g.S.Store c.self.inside.shape.kinds c.self.inside.shape.kinds c.self.inside.conn c.write_change.new.conn c.self.inside.known (lasts_of (state g.S.Store c.self.inside.conn) (state g.S.Store c.write_change.new.conn) c.in-Err.ensures.transacts.crash)
     (λ opened. (c.in-Err.ensures.ends (clean_if_open (state g.S.Store c.write_change.new.conn) (g.met.S.Store.shut_if_dirty c.write_change.new.conn.store) opened) c.self.invariant.0).was_open opened) (invariant_of-self-in-Err-1 g c).1)
+
+pub returns-in-Err-clause-text : goal.returns-in-Err-clause-text
+returns-in-Err-clause-text g c =
+    rw (← c.self.view_is)
+    (text_refused g.S.Store c.self.inside.shape.kinds c.self.inside.conn c.write_change.new.conn c.args.change.now (g.met.S.Store.shut_if_dirty c.write_change.new.conn.store)
+    (λ clean. c.write_change.ensures.ends clean c.self.invariant.0) c.args.schema.now c.in-Err.error c.self.inside.known c.in-Err.ensures.transacts)

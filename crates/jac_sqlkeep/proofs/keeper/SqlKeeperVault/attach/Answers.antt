@@ -6,7 +6,7 @@ use Rattle.jac_sqlkeep.proofs.keeper.SqlKeeperVault.attach.Goals as goal
 
 pub returns-in-Ok-None-clause-attaches : goal.returns-in-Ok-None-clause-attaches
 returns-in-Ok-None-clause-attaches g c =
-    let known = subst (λ (k : Kept). IsTrue (is_some k.database) → IsTrue k.store.called) c.self.view_is c.self.invariant in
+    let known = subst (λ (k : Kept). IsTrue (is_some k.database) → IsTrue k.store.called) c.self.view_is c.self.invariant.0 in
     let now = c.begin.ensures in
     let is : c.open-database.result.1 ≡ Ok None = search rules in
     attached_now c.args.self.now c.begin.new.self _ _ c.in-Ok.known.shape.kinds c.in-Ok.known.shape.nested c.open-database.result.0 known c.requires.first
