@@ -6,7 +6,8 @@ ghost use Rattle.sqlite_wal.specs.Files.{image_at};
 ghost use Rattle.jac_reopen.specs.Reopened.{Supposed};
 ghost use Rattle.jac_host_vault.specs.Content.{StandFor, HoldsSupposed};
 
-use jac_sqlkeep::{FileOpener, HostOpener, OpenFault, Opener};
+use crate::told::tell_refusal;
+use jac_sqlkeep::{FileOpener, HostOpener, Opener, Unfit};
 use jac_value::Txt;
 use sqlite::{File, FileFrom, FileStore, Start};
 use std::fs::remove_file;
@@ -26,7 +27,8 @@ pub trait FileContent: Start {
         ensures { StandFor (image_at Self.Start) holds };
 }
 
-/// What opens a store's file once, and closes it. Only a `MakesOpeners` makes it.
+/// What opens a store's file once, and closes it. A function with a type `F: MakesOpeners` gets an
+/// `F::Opens` only from it.
 pub trait FileOpens: Opener + Drop {
     /// What is supposed of the store in the file.
     ghost holds: { Supposed };
@@ -41,11 +43,11 @@ pub trait FileOpens: Opener + Drop {
     fn gives_once(&self)
         ensures { Self.Opener.gave self.now ≤ 1 };
 
-    /// Why the file wasn't opened.
-    fn fault(&self) -> Option<OpenFault>;
+    /// Prints to standard error why the file of this name wasn't attached.
+    fn tell_refusal(&self, name: &Txt, unfit: Option<Unfit>);
 
     /// Closes the file. If it was refused, a log that the opening made is removed.
-    fn close(&self, rt: &HostRuntime, store: Self::Store, refused: bool);
+    fn close(&self, store: Self::Store, refused: bool);
 }
 
 impl<C: FileContent> FileOpens for FileOpener<C> {
@@ -58,15 +60,16 @@ impl<C: FileContent> FileOpens for FileOpener<C> {
     #[tactic(auto, using(crate::proofs::Left::one_at_most))]
     fn gives_once(&self) {}
 
-    fn fault(&self) -> Option<OpenFault> {
-        FileOpener::fault(self)
+    fn tell_refusal(&self, name: &Txt, unfit: Option<Unfit>) {
+        tell_refusal(self.runtime(), name, self.fault(), unfit);
     }
 
     /// What can't be copied from the log into the file stays in the log beside it, where the next
     /// opening finds it. A log that a refused opening made is copied whole and then removed while
     /// the files are still locked, so no other program has it.
-    fn close(&self, rt: &HostRuntime, store: FileStore<FileFrom<C>>, refused: bool) {
-        close_store(rt, store, if refused { self.new_log() } else { None });
+    fn close(&self, store: FileStore<FileFrom<C>>, refused: bool) {
+        let log = if refused { self.new_log() } else { None };
+        close_store(self.runtime(), store, log);
     }
 }
 
@@ -83,12 +86,13 @@ impl FileOpens for HostOpener {
     #[tactic(auto, using(crate::proofs::Left::one_at_most))]
     fn gives_once(&self) {}
 
-    fn fault(&self) -> Option<OpenFault> {
-        HostOpener::fault(self)
+    fn tell_refusal(&self, name: &Txt, unfit: Option<Unfit>) {
+        tell_refusal(self.runtime(), name, self.fault(), unfit);
     }
 
-    fn close(&self, rt: &HostRuntime, store: FileStore<File>, refused: bool) {
-        close_store(rt, store, if refused { self.new_log() } else { None });
+    fn close(&self, store: FileStore<File>, refused: bool) {
+        let log = if refused { self.new_log() } else { None };
+        close_store(self.runtime(), store, log);
     }
 }
 

@@ -8,7 +8,7 @@ ghost use Rattle.jac_sqlkeep.specs.Kept.{seen_kept, HasStore, HasStandingDatabas
 ghost use Rattle.jac_host_vault.specs.Content.{IsFileOf, IsFound};
 
 use crate::FileOpens;
-use crate::told::{tell_refusal, words_of_error};
+use crate::told::words_of_error;
 use jac_keep::{AttachFault, Change, Keeper, Stop, Vault};
 use jac_rows::Rows;
 use jac_sqlkeep::SqlKeeper;
@@ -19,7 +19,6 @@ use std::marker::Model;
 /// A keeper in a file. Its state is known after it is attached, as long as its connection is open,
 /// because what the file held was read and tested. When the keeper is dropped, the file is closed.
 pub struct FileKeeper<O: FileOpens> {
-    rt: HostRuntime,
     keeper: SqlKeeper<O>,
 }
 
@@ -34,11 +33,11 @@ impl<O: FileOpens> Model for FileKeeper<O> {
 // Written out, so that a caller doesn't prove again how each part is dropped.
 impl<O: FileOpens> Drop for FileKeeper<O> {
     fn drop(self) {
-        let FileKeeper { rt, keeper } = self;
+        let FileKeeper { keeper } = self;
         let refused = !keeper.is_attached();
         let (opener, conn) = keeper.into_parts();
         if let Some(conn) = conn {
-            opener.close(&rt, conn.into_store(), refused);
+            opener.close(conn.into_store(), refused);
         }
     }
 }
@@ -47,11 +46,10 @@ impl<O: FileOpens> FileKeeper<O> {
     ghost use Rattle.jac_sqlkeep.specs.Kept.{untouched_keeper};
 
     /// A keeper that isn't attached yet, of the file that the opener opens.
-    pub fn new(rt: HostRuntime, opener: O) -> FileKeeper<O>
+    pub fn new(opener: O) -> FileKeeper<O>
         ensures { result ≡ untouched_keeper (O.Opener.faults opener) (O.Opener.gave opener) }
     {
         FileKeeper {
-            rt,
             keeper: SqlKeeper::new(opener),
         }
     }
@@ -95,12 +93,7 @@ impl<O: FileOpens> FileKeeper<O> {
 
     /// Prints to standard error why the file of this name wasn't attached.
     pub(crate) fn tell_refusal(&self, name: &Txt) {
-        tell_refusal(
-            &self.rt,
-            name,
-            self.keeper.opener().fault(),
-            self.keeper.unfit(),
-        );
+        self.keeper.opener().tell_refusal(name, self.keeper.unfit());
     }
 
     /// Why the last call failed.

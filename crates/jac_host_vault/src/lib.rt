@@ -13,6 +13,6 @@ mod vault;
 pub use content::{FileContent, FileOpens};
 pub use file::FileKeeper;
 pub use laws::file_goes_on_telling;
-pub use maker::{FileMaker, FileSpare};
+pub use maker::FileMaker;
 pub use openers::{FileOpeners, HostOpeners, MakesOpeners, OtherOpeners};
 pub use vault::HostVault;

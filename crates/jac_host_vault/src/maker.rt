@@ -1,6 +1,5 @@
 ghost use Rattle.std.specs.Prelude.{◌≡◌, List};
 
-use crate::told::FaultLog;
 use crate::{FileKeeper, MakesOpeners};
 use jac_keep::{AttachFault, Stop, Vault};
 use jac_reopen::{KnownStore, VaultMaker};
@@ -11,24 +10,15 @@ use std::alloc::Global;
 /// Opens a file. Its tables are held in memory after they are read.
 #[derive(Drop)]
 pub struct FileMaker<F: MakesOpeners> {
-    rt: HostRuntime,
     makes: bool,
     openers: F,
 }
 
 impl<F: MakesOpeners> FileMaker<F> {
     /// A maker that makes the file if it doesn't exist, or one that refuses it.
-    pub fn new(rt: HostRuntime, makes: bool, openers: F) -> FileMaker<F> {
-        FileMaker { rt, makes, openers }
+    pub fn new(makes: bool, openers: F) -> FileMaker<F> {
+        FileMaker { makes, openers }
     }
-}
-
-/// Opens the file again.
-#[derive(Drop)]
-pub struct FileSpare<F: MakesOpeners> {
-    rt: HostRuntime,
-    others: F::Others,
-    log: FaultLog,
 }
 
 impl<F: MakesOpeners> VaultMaker for FileMaker<F> {
@@ -37,7 +27,7 @@ impl<F: MakesOpeners> VaultMaker for FileMaker<F> {
 
     type Vault = CachedKeeper<FileKeeper<F::Opens>>;
 
-    type Spare = FileSpare<F>;
+    type Spare = F::Others;
 
     ghost supposes = { F.Opens.holds };
 
@@ -47,7 +37,7 @@ impl<F: MakesOpeners> VaultMaker for FileMaker<F> {
 
     ghost stands = { IsStandingFile };
 
-    ghost made = { λ s. F.made s.others };
+    ghost made = { F.made };
 
     #[tactic(auto, using(crate::proofs::Standing::standing_file))]
     fn rows_stand(vault: &CachedKeeper<FileKeeper<F::Opens>>) {
@@ -65,30 +55,28 @@ impl<F: MakesOpeners> VaultMaker for FileMaker<F> {
         schema: &Txt,
     ) -> (
         CachedKeeper<FileKeeper<F::Opens>>,
-        FileSpare<F>,
+        F::Others,
         Result<(), AttachFault>,
     ) {
-        let FileMaker { rt, makes, openers } = self;
+        let FileMaker { makes, openers } = self;
         let (opener, others) = openers.first(makes);
-        let mut file = FileKeeper::new(rt, opener);
+        let mut file = FileKeeper::new(opener);
         let attached = file.attach(alloc, name, schema);
         if attached.is_err() {
             if let Some(name) = name {
                 file.tell_refusal(name);
             }
         }
-        let log = FaultLog::new(rt);
-        let spare = FileSpare { rt, others, log };
-        (CachedKeeper::new(alloc, file), spare, attached)
+        (CachedKeeper::new(alloc, file), others, attached)
     }
 
     fn attach_again(
-        spare: &mut FileSpare<F>,
+        others: &mut F::Others,
         alloc: Global,
         store: &KnownStore,
     ) -> Result<CachedKeeper<FileKeeper<F::Opens>>, Stop> {
-        let opener = F::another(&mut spare.others);
-        let mut file = FileKeeper::new(spare.rt, opener);
+        let opener = F::another(others);
+        let mut file = FileKeeper::new(opener);
         match file.attach(alloc, store.name(), store.schema()) {
             Ok(()) => {
                 file.doubt();
@@ -96,18 +84,18 @@ impl<F: MakesOpeners> VaultMaker for FileMaker<F> {
             }
             Err(AttachFault::Memory) => Err(Stop::Memory),
             Err(AttachFault::Failed | AttachFault::Other(_)) => {
-                tell(&mut spare.log, store, "the store can't be opened again");
+                tell::<F>(others, store, "the store can't be opened again");
                 Err(Stop::Keeper)
             }
         }
     }
 
     fn tell_fault(
-        spare: &mut FileSpare<F>,
+        others: &mut F::Others,
         vault: &CachedKeeper<FileKeeper<F::Opens>>,
         store: &KnownStore,
     ) {
-        tell(&mut spare.log, store, vault.keeper().words_of_fault());
+        tell::<F>(others, store, vault.keeper().words_of_fault());
     }
 
     fn faults(vault: &CachedKeeper<FileKeeper<F::Opens>>) -> u64 {
@@ -115,8 +103,10 @@ impl<F: MakesOpeners> VaultMaker for FileMaker<F> {
     }
 }
 
-fn tell(log: &mut FaultLog, store: &KnownStore, what: &str) {
+fn tell<F: MakesOpeners>(others: &mut F::Others, store: &KnownStore, what: &str)
+    ensures { F.made others.new ≡ F.made others.old }
+{
     if let Some(name) = store.name() {
-        log.tell(name.as_str(), what);
+        F::tell(others, name, what);
     }
 }

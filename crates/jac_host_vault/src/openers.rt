@@ -2,12 +2,14 @@
 ghost use Rattle.std.specs.Prelude.{◌≡◌, ℕ};
 ghost use Rattle.jac_io.specs.Faults.{one_more_fault};
 
+use crate::told::FaultLog;
 use crate::{FileContent, FileOpens};
 use jac_sqlkeep::{FileOpener, HostOpener};
+use jac_value::Txt;
 use std::marker::PhantomData;
 
 /// What makes the first opener of a store's file. This uses it up, so a value of this type has made
-/// none. A function with such a type parameter can't make an opener in another way.
+/// none. A function with such a type parameter can't make an `Opens` in another way.
 pub trait MakesOpeners: Drop {
     type Opens: FileOpens;
 
@@ -26,6 +28,10 @@ pub trait MakesOpeners: Drop {
     /// One more opener. It opens only a file that exists.
     fn another(others: &mut Self::Others) -> Self::Opens
         ensures made { made others.new ≡ one_more_fault (made others.old) };
+
+    /// Reports a fault of the store of this name on standard error, at most one per second.
+    fn tell(others: &mut Self::Others, name: &Txt, what: &str)
+        ensures made { made others.new ≡ made others.old };
 }
 
 /// Makes openers of a file that is supposed to have the content `C`.
@@ -55,13 +61,17 @@ impl<C: FileContent> MakesOpeners for FileOpeners<C> {
         let FileOpeners { rt, content: _ } = self;
         (
             FileOpener::new(rt, makes, C::new()),
-            OtherOpeners { rt, made: 1 },
+            OtherOpeners::after_first(rt),
         )
     }
 
     fn another(others: &mut OtherOpeners) -> FileOpener<C> {
         others.made = others.made.saturating_add(1);
         FileOpener::new(others.rt, false, C::new())
+    }
+
+    fn tell(others: &mut OtherOpeners, name: &Txt, what: &str) {
+        others.log.tell(name.as_str(), what);
     }
 }
 
@@ -86,12 +96,16 @@ impl MakesOpeners for HostOpeners {
 
     fn first(self, makes: bool) -> (HostOpener, OtherOpeners) {
         let HostOpeners { rt } = self;
-        (HostOpener::new(rt, makes), OtherOpeners { rt, made: 1 })
+        (HostOpener::new(rt, makes), OtherOpeners::after_first(rt))
     }
 
     fn another(others: &mut OtherOpeners) -> HostOpener {
         others.made = others.made.saturating_add(1);
         HostOpener::new(others.rt, false)
+    }
+
+    fn tell(others: &mut OtherOpeners, name: &Txt, what: &str) {
+        others.log.tell(name.as_str(), what);
     }
 }
 
@@ -100,4 +114,17 @@ impl MakesOpeners for HostOpeners {
 pub struct OtherOpeners {
     rt: HostRuntime,
     made: u64,
+    log: FaultLog,
+}
+
+impl OtherOpeners {
+    fn after_first(rt: HostRuntime) -> OtherOpeners
+        ensures { result.made ≡ 1 }
+    {
+        OtherOpeners {
+            rt,
+            made: 1,
+            log: FaultLog::new(rt),
+        }
+    }
 }

@@ -176,7 +176,7 @@ fn vault_for<F: MakesOpeners>(
         number: 1,
     };
     if names_file(&command) {
-        let maker = FileMaker::new(*rt, makes_file(&command), openers);
+        let maker = FileMaker::new(makes_file(&command), openers);
         return Ok(HostVault::in_file(alloc, state, maker));
     }
     Ok(HostVault::in_memory(alloc, state))

@@ -125,6 +125,10 @@ impl<S: Start> FileOpener<S> {
     pub fn fault(&self) -> Option<OpenFault> {
         self.outcome.fault
     }
+
+    pub fn runtime(&self) -> &HostRuntime {
+        &self.rt
+    }
 }
 
 impl<S: Start> Opener for FileOpener<S> {
@@ -190,6 +194,10 @@ impl HostOpener {
     /// Why the last opening failed.
     pub fn fault(&self) -> Option<OpenFault> {
         self.outcome.fault
+    }
+
+    pub fn runtime(&self) -> &HostRuntime {
+        &self.rt
     }
 }
 
