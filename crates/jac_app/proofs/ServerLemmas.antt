@@ -19,7 +19,7 @@ use Rattle.jac_command_base.specs.Files.{Sight, sinks_of, HasApplication, HasSes
 use Rattle.jac_command_base.specs.Attached.{AttachesAs}
 use Rattle.jac_command_base.specs.Early.{IsEndedEarly}
 use Rattle.jac_command_base.specs.Startup.{sight_of, AreFilesRead, EndsAim, HasBegun, IsBarred, IsHalted, IsStoppedAiming}
-use Rattle.jac_connections.specs.Door.{LinkVisit, IsEnding, AreLinksServed}
+use Rattle.jac_connections.specs.Door.{LinkVisit, open_visits, IsEnding, AreHandedBack, AreAllHandedBack, AreReturned, AreLinksServed}
 use Rattle.jac_serve_events.specs.AnswerSpec.{AnswerSpec, LogEntry}
 use Rattle.jac_serve_events.specs.RunSeen.{RunCounts, RunSeen, run_seen_of, keepers}
 use Rattle.jac_app.specs.Held.{held_of, opened_on}
@@ -97,6 +97,20 @@ module _ {L : Type 0} (line : L → LinkSeen) (app : Application) (sessions : Li
     exit_reason_from most visits last log (Err halts.Write) h = h
     exit_reason_from most visits last log (Err halts.Memory) h = h
 
+    handed_from : (visits : List (LinkVisit L)) → AreHandedBack (span db dc) visits → AreHandedBack (span da dc) visits
+    handed_from visits h = λ told. h told ∙ ap (λ (l : List L). l ++ map (λ (visit : LinkVisit L). visit.gone) visits) (heard.same_returned (lasts.told told))
+
+    all_handed_from : (visits : List (LinkVisit L)) (last : Option (LinkVisit L)) → AreAllHandedBack (span db dc) visits last → AreAllHandedBack (span da dc) visits last
+    all_handed_from visits last (inl h) = inl (handed_from (visits ++ open_visits last) h)
+    all_handed_from visits last (inr (h, rose)) = inr (handed_from visits h, Rose-widen da.faults db.faults dc.faults dc.faults heard.lasts.later (omega arith) rose)
+
+    returned_from : (visits : List (LinkVisit L)) (last : Option (LinkVisit L)) (result : Result Tally DoorHalt)
+        → AreReturned (span db dc) visits last result → AreReturned (span da dc) visits last result
+    returned_from visits last (Ok tally) h = handed_from visits h
+    returned_from visits last (Err halts.Door) h = handed_from visits h
+    returned_from visits last (Err halts.Write) h = all_handed_from visits last h
+    returned_from visits last (Err halts.Memory) h = all_handed_from visits last h
+
     links_from : (x : AnswerSpec) (most : ℕ) (k : Span RunSeen) (result : Result Tally DoorHalt) (audit : List ℕ)
         → AreLinksServed line x most (span db dc) k result audit → AreLinksServed line x most (span da dc) k result audit
     links_from x most k result audit s = record {
@@ -104,7 +118,7 @@ module _ {L : Type 0} (line : L → LinkSeen) (app : Application) (sessions : Li
       last = s.last;
       log = s.log;
       came = λ told. sym (heard.same_coming (lasts.told told)) ∙ s.came told;
-      returned = λ told. s.returned told ∙ ap (λ (l : List L). l ++ map (λ (visit : LinkVisit L). visit.gone) s.visits) (heard.same_returned (lasts.told told));
+      returned = returned_from s.visits s.last result s.returned;
       visited = s.visited;
       whole = s.whole;
       entries = s.entries;

@@ -10,8 +10,8 @@ use Rattle.jac_connections.specs.declared.door.Tally.{Tally}
 use Rattle.jac_connections.specs.declared.link.Halt.{Halt}
 use Rattle.jac_connections.specs.declared.link.Halt.TheVariants as ways
 use Rattle.jac_connections.specs.Link.{as_sink, PutsLog, IsLinkServed}
-use Rattle.jac_connections.specs.Door.{IsPart, LinkVisit, IsVisited, AreVisited, AreWhole, AreLinksServed}
-use Rattle.jac_connections.specs.DoorSteps.{link_visit, Visits, VisitsLine, GaveLine, IsUnvisited, ServesNext}
+use Rattle.jac_connections.specs.Door.{IsPart, LinkVisit, IsVisited, AreVisited, AreWhole, AreHandedBack, AreAllHandedBack, AreLinksServed}
+use Rattle.jac_connections.specs.DoorSteps.{link_visit, Visits, VisitsLast, VisitsLine, GaveLine, IsUnvisited, ServesNext}
 use Rattle.jac_serve_events.specs.AnswerSpec.{LogEntry, AnswerSpec, IsAnswerSpec}
 use Rattle.jac_serve_events.specs.Log.{audit_lines, audited_from}
 use Rattle.jac_serve_events.specs.Outside.{Span, span, Took, IsFront}
@@ -83,19 +83,16 @@ module _ {L : Type 0} (seen : L → LinkSeen) (app : AnswerSpec) where
     returns.rose,
   )
 
-  pub line_cut : (tally : Tally) (line gone : L) (door : DoorSeen L) (a b : RunSeen) (out lines : List ℕ)
+  pub line_last : (tally : Tally) (line gone : L) (da db : DoorSeen L) (a b : RunSeen) (halt : Halt) (out lines : List ℕ) (closed : Result (Unit {0}) Failed)
       → Took (span (as_sink (seen line)) (as_sink (seen gone))) out
-      → IsLinkServed app (tally.connections + 1) tally.replies (span (seen line) (seen gone)) (span a b) (Err ways.Write) out lines
-      → VisitsLine seen app tally line (span door door) (span a b) (Err halts.Write) lines
-  line_cut tally line gone door a b out lines took served =
-      visits_by tally line gone false door door a b (Err ways.Write) out lines took served (λ told. sym (append-nil door.returned))
-
-  pub line_wanting : (tally : Tally) (line gone : L) (door : DoorSeen L) (a b : RunSeen) (out lines : List ℕ)
-      → Took (span (as_sink (seen line)) (as_sink (seen gone))) out
-      → IsLinkServed app (tally.connections + 1) tally.replies (span (seen line) (seen gone)) (span a b) (Err ways.Memory) out lines
-      → VisitsLine seen app tally line (span door door) (span a b) (Err halts.Memory) lines
-  line_wanting tally line gone door a b out lines took served =
-      visits_by tally line gone false door door a b (Err ways.Memory) out lines took served (λ told. sym (append-nil door.returned))
+      → IsLinkServed app (tally.connections + 1) tally.replies (span (seen line) (seen gone)) (span a b) (Err halt) out lines
+      → Returns da db gone closed → VisitsLast seen app tally line (span da db) (span a b) (Err halt) lines
+  line_last tally line gone da db a b halt out lines (Ok done) took served returns =
+      inl (visits_by tally line gone true da db a b (Err halt) out lines took served returns.ok)
+  line_last tally line gone da db a b halt out lines (Err failed) took served returns = inr (
+    visits_by tally line gone false da db a b (Err halt) out lines took served (λ told. returns.err told ∙ sym (append-nil da.returned)),
+    returns.rose,
+  )
 
   -- The limit of a count.
   pub line_few : (c first : ℕ) (link : Span LinkSeen) (k : Span RunSeen) (count : ℕ) (out lines : List ℕ) → IsLinkServed app c first link k (Ok count) out lines → count ≤ 16777217
@@ -117,6 +114,15 @@ module _ {L : Type 0} (seen : L → LinkSeen) (app : AnswerSpec) where
     returned = λ told. v.returned told ∙ ap (λ (l : List L). l ++ (if handed then v.gone ∷ [] else [])) (same (back told));
   }
 
+  last_after : (tally : Tally) (line : L) (da db dc : DoorSeen L) (k : Span RunSeen) (result : Result ℕ Halt) (lines : List ℕ) → da.faults ≤ db.faults
+      → (IsTrue dc.tells → IsTrue db.tells) → (IsTrue db.tells → db.returned ≡ da.returned)
+      → VisitsLast seen app tally line (span db dc) k result lines → VisitsLast seen app tally line (span da dc) k result lines
+  last_after tally line da db dc k result lines later back same (inl v) = inl (visits_after tally line true da db dc k result lines back same v)
+  last_after tally line da db dc k result lines later back same (inr (v, rose)) = inr (
+    visits_after tally line false da db dc k result lines back same v,
+    Rose-widen da.faults db.faults dc.faults dc.faults later (omega arith) rose,
+  )
+
   pub next_some : (tally more : Tally) (line : L) (da db dc : DoorSeen L) (k : Span RunSeen) (lines : List ℕ) → (IsTrue dc.tells → IsTrue db.tells)
       → AsksNext da db (Ok (Some line)) → (IsTrue dc.tells → dc.coming ≡ db.coming) → VisitsLine seen app tally line (span db dc) k (Ok more) lines
       → ServesNext seen app tally (span da dc) k (Ok (Some more)) lines
@@ -135,9 +141,9 @@ module _ {L : Type 0} (seen : L → LinkSeen) (app : AnswerSpec) where
     Rose-widen da.faults db.faults dc.faults dc.faults later (omega arith) rose,
   )
   next_cut tally line da db dc k lines halts.Write later back next coming v =
-      (line, gave_line da db dc line back next.ok coming, visits_after tally line false da db dc k (Err ways.Write) lines back next.same_returned v)
+      (line, gave_line da db dc line back next.ok coming, last_after tally line da db dc k (Err ways.Write) lines later back next.same_returned v)
   next_cut tally line da db dc k lines halts.Memory later back next coming v =
-      (line, gave_line da db dc line back next.ok coming, visits_after tally line false da db dc k (Err ways.Memory) lines back next.same_returned v)
+      (line, gave_line da db dc line back next.ok coming, last_after tally line da db dc k (Err ways.Memory) lines later back next.same_returned v)
 
   pub next_no_more : (tally : Tally) (da db : DoorSeen L) (k : RunSeen) → AsksNext da db (Ok None) → ServesNext seen app tally (span da db) (span k k) (Ok None) []
   next_no_more tally da db k next = (
@@ -244,6 +250,12 @@ module _ {L : Type 0} (seen : L → LinkSeen) (app : AnswerSpec) where
     lines_as visit mine v =
         subst (λ (n : ℕ). IsPart (is_torn visit.result) au (audited_from (n + 1) mine)) s.replies (visit_lines (tally.connections + 1) tally.replies (span b d) visit mine au v)
 
+    returned_more : (visit : LinkVisit L) → (IsTrue dc.tells → dc.returned ≡ db.returned ++ visit.gone ∷ []) → AreHandedBack (span da dc) (s.visits ++ visit ∷ [])
+    returned_more visit more = λ told.
+        more told ∙ ap (λ (l : List L). l ++ visit.gone ∷ []) (s.returned (back told))
+        ∙ append_assoc da.returned (map (λ (x : LinkVisit L). x.gone) s.visits) (visit.gone ∷ [])
+        ∙ ap (λ (l : List L). da.returned ++ l) (sym (map_push (λ x. x.gone) s.visits visit))
+
     -- The next link was served and handed back.
     pub door_on : (line : L) (more : Tally) → GaveLine (span db dc) line → VisitsLine seen app tally line (span db dc) (span b d) (Ok more) au
         → DoorProgress (span da dc) (span a d) more (o ++ au)
@@ -253,10 +265,7 @@ module _ {L : Type 0} (seen : L → LinkSeen) (app : AnswerSpec) where
           visits = s.visits ++ visit ∷ [];
           log = s.log ++ v.mine;
           came = came_on da db dc s.visits line v.gone (Ok count) back s.came gave;
-          returned = λ told.
-              v.returned told ∙ ap (λ (l : List L). l ++ v.gone ∷ []) (s.returned (back told))
-              ∙ append_assoc da.returned (map (λ (x : LinkVisit L). x.gone) s.visits) (v.gone ∷ [])
-              ∙ ap (λ (l : List L). da.returned ++ l) (sym (map_push (λ x. x.gone) s.visits visit));
+          returned = returned_more visit v.returned;
           visited = visited_push s.visits 1 0 a b d s.log v.mine o au visit s.visited (seen_as visit v.mine v.visited);
           whole = whole_push s.visits visit s.whole refl;
           entries = lawful.joined a b d s.log v.mine s.entries (visit_entries (tally.connections + 1) tally.replies b d visit v.mine au v.visited);
@@ -266,8 +275,8 @@ module _ {L : Type 0} (seen : L → LinkSeen) (app : AnswerSpec) where
               ap (λ (t : List ℕ). t ++ au) s.audit_text ∙ ap (λ (t : List ℕ). audit_lines s.log ++ t) (lines_as visit v.mine v.visited) ∙ audited_push s.log v.mine;
         }
 
-    returned_same : (gone : L) → (IsTrue dc.tells → dc.returned ≡ db.returned ++ []) → IsTrue dc.tells → dc.returned ≡ da.returned ++ map (λ (x : LinkVisit L). x.gone) s.visits
-    returned_same gone same told = same told ∙ append-nil db.returned ∙ s.returned (back told)
+    returned_same : (IsTrue dc.tells → dc.returned ≡ db.returned ++ []) → AreHandedBack (span da dc) s.visits
+    returned_same same = λ told. same told ∙ append-nil db.returned ∙ s.returned (back told)
 
     -- The next link was served whole, but wasn't handed back.
     pub door_kept : (most : ℕ) (line : L) (count : ℕ) → GaveLine (span db dc) line → Rose da.faults dc.faults → Visits seen app tally line false (span db dc) (span b d) (Ok count) au
@@ -279,7 +288,7 @@ module _ {L : Type 0} (seen : L → LinkSeen) (app : AnswerSpec) where
           last = Some visit;
           log = s.log ++ v.mine;
           came = came_on da db dc s.visits line v.gone (Ok count) back s.came gave;
-          returned = returned_same v.gone v.returned;
+          returned = returned_same v.returned;
           visited = visited_push s.visits 1 0 a b d s.log v.mine o au visit s.visited (seen_as visit v.mine v.visited);
           whole = s.whole;
           entries = lawful.joined a b d s.log v.mine s.entries (visit_entries (tally.connections + 1) tally.replies b d visit v.mine au v.visited);
@@ -294,16 +303,17 @@ module _ {L : Type 0} (seen : L → LinkSeen) (app : AnswerSpec) where
         (subst (λ (t : List ℕ). IsFront (audit_lines s.log ++ au) t) (audited_push s.log mine) (append-IsFront (audit_lines s.log) au (audited_from (length s.log + 1) mine) front))
 
     -- A put on the audit failed while the next link was served.
-    pub door_cut : (most : ℕ) (line : L) → GaveLine (span db dc) line → Visits seen app tally line false (span db dc) (span b d) (Err ways.Write) au
+    pub door_cut : (most : ℕ) (line : L) (handed : Bool) → GaveLine (span db dc) line → (v : Visits seen app tally line handed (span db dc) (span b d) (Err ways.Write) au)
+        → AreAllHandedBack (span da dc) s.visits (Some (link_visit line v.gone (Err ways.Write)))
         → AreLinksServed seen app most (span da dc) (span a d) (Err halts.Write) (o ++ au)
-    door_cut most line gave v =
+    door_cut most line handed gave v returned =
         let visit = link_visit line v.gone (Err ways.Write) in
         record {
           visits = s.visits;
           last = Some visit;
           log = s.log ++ v.mine;
           came = came_on da db dc s.visits line v.gone (Err ways.Write) back s.came gave;
-          returned = returned_same v.gone v.returned;
+          returned = returned;
           visited = visited_push s.visits 1 0 a b d s.log v.mine o au visit s.visited (seen_as visit v.mine v.visited);
           whole = s.whole;
           entries = lawful.joined a b d s.log v.mine s.entries (visit_entries (tally.connections + 1) tally.replies b d visit v.mine au v.visited);
@@ -312,16 +322,17 @@ module _ {L : Type 0} (seen : L → LinkSeen) (app : AnswerSpec) where
         }
 
     -- Memory ran out while the next link was served.
-    pub door_wanting : (most : ℕ) (line : L) → GaveLine (span db dc) line → Visits seen app tally line false (span db dc) (span b d) (Err ways.Memory) au
+    pub door_wanting : (most : ℕ) (line : L) (handed : Bool) → GaveLine (span db dc) line → (v : Visits seen app tally line handed (span db dc) (span b d) (Err ways.Memory) au)
+        → AreAllHandedBack (span da dc) s.visits (Some (link_visit line v.gone (Err ways.Memory)))
         → AreLinksServed seen app most (span da dc) (span a d) (Err halts.Memory) (o ++ au)
-    door_wanting most line gave v =
+    door_wanting most line handed gave v returned =
         let visit = link_visit line v.gone (Err ways.Memory) in
         record {
           visits = s.visits;
           last = Some visit;
           log = s.log ++ v.mine;
           came = came_on da db dc s.visits line v.gone (Err ways.Memory) back s.came gave;
-          returned = returned_same v.gone v.returned;
+          returned = returned;
           visited = visited_push s.visits 1 0 a b d s.log v.mine o au visit s.visited (seen_as visit v.mine v.visited);
           whole = s.whole;
           entries = lawful.joined a b d s.log v.mine s.entries (visit_entries (tally.connections + 1) tally.replies b d visit v.mine au v.visited);
@@ -401,5 +412,14 @@ module _ {L : Type 0} (seen : L → LinkSeen) (app : AnswerSpec) where
         door_failed most da dc a d tally (o ++ au) (door_quiet lawful da db dc a b d tally o au back s quiet) (Rose-widen da.faults db.faults dc.faults dc.faults later (omega arith) rose)
     next_halt most later halts.Door (inr (line, gave, (count, v)), rose) =
         door_kept lawful da db dc a b d tally o au back s most line count gave (Rose-widen da.faults db.faults dc.faults dc.faults later (omega arith) rose) v
-    next_halt most later halts.Write h = door_cut lawful da db dc a b d tally o au back s most h.0 h.1 h.2
-    next_halt most later halts.Memory h = door_wanting lawful da db dc a b d tally o au back s most h.0 h.1 h.2
+    next_halt most later halts.Write (line, gave, inl v) =
+        door_cut lawful da db dc a b d tally o au back s most line true gave v (inl (returned_more lawful da db dc a b d tally o au back s (link_visit line v.gone (Err ways.Write)) v.returned))
+    next_halt most later halts.Write (line, gave, inr (v, rose)) =
+        door_cut lawful da db dc a b d tally o au back s most line false gave v
+        (inr (returned_same lawful da db dc a b d tally o au back s v.returned, Rose-widen da.faults db.faults dc.faults dc.faults later (omega arith) rose))
+    next_halt most later halts.Memory (line, gave, inl v) =
+        door_wanting lawful da db dc a b d tally o au back s most line true gave v
+        (inl (returned_more lawful da db dc a b d tally o au back s (link_visit line v.gone (Err ways.Memory)) v.returned))
+    next_halt most later halts.Memory (line, gave, inr (v, rose)) =
+        door_wanting lawful da db dc a b d tally o au back s most line false gave v
+        (inr (returned_same lawful da db dc a b d tally o au back s v.returned, Rose-widen da.faults db.faults dc.faults dc.faults later (omega arith) rose))

@@ -42,7 +42,7 @@ AreVisited seen app c first before (visit ∷ visits) log audit after =
     × (audit ≡ lines ++ more)
     × AreVisited seen app (c + 1) (first + length mine) between visits others more after
 
--- The visit whose link wasn't handed back, if there is one.
+-- The last visit, if serving ended while its link was served or handed back.
 abbrev pub open_visits : {L : Type 0} → Option (LinkVisit L) → List (LinkVisit L)
 open_visits None = []
 open_visits (Some visit) = visit ∷ []
@@ -80,9 +80,29 @@ IsEnding {L = L} most door visits last log (Err halts.Write) = (visit : LinkVisi
 IsEnding {L = L} most door visits last log (Err halts.Memory) = (visit : LinkVisit L)
     × (last ≡ Some visit) × (visit.result ≡ Err ways.Memory)
 
+-- If the door's contents are known, the links of these visits were handed back, in order.
+abbrev pub AreHandedBack : {L : Type 0} → Span (DoorSeen L) → List (LinkVisit L) → Type 0
+AreHandedBack door visits = IsTrue door.after.tells → door.after.returned ≡ door.before.returned
+    ++ map (λ visit. visit.gone) visits
+
+-- The links of these visits and of the last one were handed back, in order. If a call of the door
+-- failed, that of the last one may be missing.
+abbrev pub AreAllHandedBack : {L : Type 0} → Span (DoorSeen L) → List (LinkVisit L) → Option
+    (LinkVisit L) → Type 0
+AreAllHandedBack door visits last = AreHandedBack door (visits ++ open_visits last)
+    ⊎ (AreHandedBack door visits × Rose door.before.faults door.after.faults)
+
+-- Which links were handed back. If a call of the door ended serving, that of the last visit wasn't.
+abbrev pub AreReturned : {L : Type 0} → Span (DoorSeen L) → List (LinkVisit L) → Option
+    (LinkVisit L) → Result Tally DoorHalt → Type 0
+AreReturned door visits last (Ok tally) = AreHandedBack door visits
+AreReturned door visits last (Err halts.Door) = AreHandedBack door visits
+AreReturned door visits last (Err halts.Write) = AreAllHandedBack door visits last
+AreReturned door visits last (Err halts.Memory) = AreAllHandedBack door visits last
+
 -- At most `most` connections of a door were served. They and their replies are numbered from 1.
--- Each link that was served whole was handed back, in order, and one log of all connections shows
--- what they leave.
+-- Their links were handed back, in order, as far as `AreReturned` says. One log of all connections
+-- shows what they leave.
 pub record AreLinksServed {L : Type 0} (seen : L → LinkSeen) (app : AnswerSpec) (most : ℕ)
     (door : Span (DoorSeen L)) (k : Span RunSeen)
     (result : Result Tally DoorHalt) (audit : List ℕ) : Type 0 where
@@ -91,8 +111,7 @@ pub record AreLinksServed {L : Type 0} (seen : L → LinkSeen) (app : AnswerSpec
   pub log : List LogEntry
   pub came : IsTrue door.after.tells → door.before.coming ≡ map (λ visit. visit.came)
       (visits ++ open_visits last) ++ door.after.coming
-  pub returned : IsTrue door.after.tells → door.after.returned ≡ door.before.returned
-      ++ map (λ visit. visit.gone) visits
+  pub returned : AreReturned door visits last result
   pub visited : AreVisited seen app 1 0 k.before (visits ++ open_visits last) log audit k.after
   pub whole : AreWhole visits
   pub entries : app.entries k log

@@ -26,6 +26,14 @@ pub record Visits {L : Type 0} (seen : L → LinkSeen) (app : AnswerSpec) (tally
   pub returned : IsTrue door.after.tells → door.after.returned ≡ door.before.returned ++ (if handed
       then gone ∷ [] else [])
 
+-- A link was served, and serving ended during it. It was handed back, unless the close failed.
+abbrev pub VisitsLast : {L : Type 0} → (L → LinkSeen) → AnswerSpec → Tally → L → Span (DoorSeen L)
+    → Span RunSeen → Result ℕ Halt → List ℕ → Type 0
+VisitsLast seen app tally line door k result audit =
+    Visits seen app tally line true door k result audit
+    ⊎ (Visits seen app tally line false door k result audit
+    × Rose door.before.faults door.after.faults)
+
 -- This link, which the door gave, was served.
 abbrev pub VisitsLine : {L : Type 0} → (L → LinkSeen) → AnswerSpec → Tally → L → Span (DoorSeen L)
     → Span RunSeen → Result Tally DoorHalt → List ℕ → Type 0
@@ -36,10 +44,10 @@ VisitsLine seen app tally line door k (Ok more) audit =
 VisitsLine seen app tally line door k (Err halts.Door) audit =
     ((count : ℕ) × Visits seen app tally line false door k (Ok count) audit)
     × Rose door.before.faults door.after.faults
-VisitsLine seen app tally line door k (Err halts.Write) audit = Visits seen app tally line false
-    door k (Err ways.Write) audit
-VisitsLine seen app tally line door k (Err halts.Memory) audit = Visits seen app tally line false
-    door k (Err ways.Memory) audit
+VisitsLine seen app tally line door k (Err halts.Write) audit = VisitsLast seen app tally line door
+    k (Err ways.Write) audit
+VisitsLine seen app tally line door k (Err halts.Memory) audit = VisitsLast seen app tally line door
+    k (Err ways.Memory) audit
 
 -- The door gave this link, and the others are still to come.
 abbrev pub GaveLine : {L : Type 0} → Span (DoorSeen L) → L → Type 0
@@ -65,7 +73,6 @@ ServesNext {L = L} seen app tally door k (Err halts.Door) audit =
     × ((count : ℕ) × Visits seen app tally line false door k (Ok count) audit)))
     × Rose door.before.faults door.after.faults
 ServesNext {L = L} seen app tally door k (Err halts.Write) audit =
-    (line : L) × GaveLine door line × Visits seen app tally line false door k (Err ways.Write) audit
+    (line : L) × GaveLine door line × VisitsLast seen app tally line door k (Err ways.Write) audit
 ServesNext {L = L} seen app tally door k (Err halts.Memory) audit =
-    (line : L) × GaveLine door line × Visits seen app tally line false door k (Err ways.Memory)
-    audit
+    (line : L) × GaveLine door line × VisitsLast seen app tally line door k (Err ways.Memory) audit

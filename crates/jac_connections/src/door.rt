@@ -21,14 +21,15 @@ pub struct Tally {
 /// Why serving a door ended early.
 #[derive(Clone, Copy, PartialEq, Eq)]
 pub enum DoorHalt {
-    /// The door gave no link, or took none back.
+    /// The door gave no link, or took none back after it was served whole.
     Door,
     /// A put on the audit failed.
     Write,
     Memory,
 }
 
-// Serves this link as the next connection, and hands it back.
+// Serves this link as the next connection, and hands it back. If serving the link ended early, the
+// result is the same whether or not the close fails.
 fn serve_line<K: Dispatch, D: Door, U: AuditSink>(
     dispatcher: &mut K,
     tally: Tally,
@@ -56,16 +57,20 @@ fn serve_line<K: Dispatch, D: Door, U: AuditSink>(
 {
     let mut line = line;
     let connections = tally.connections + 1;
-    match serve_link(dispatcher, connections, tally.replies, &mut line, audit) {
-        Ok(count) => match door.close(line) {
+    let served = serve_link(dispatcher, connections, tally.replies, &mut line, audit);
+    let closed = door.close(line);
+    match served {
+        Ok(count) => match closed {
             Ok(()) => Ok(Tally {
                 connections,
                 replies: tally.replies + count,
             }),
             Err(Failed) => Err(DoorHalt::Door),
         },
-        Err(Halt::Write) => Err(DoorHalt::Write),
-        Err(Halt::Memory) => Err(DoorHalt::Memory),
+        Err(halt) => match halt {
+            Halt::Write => Err(DoorHalt::Write),
+            Halt::Memory => Err(DoorHalt::Memory),
+        },
     }
 }
 
@@ -104,7 +109,8 @@ fn serve_next<K: Dispatch, D: Door, U: AuditSink>(
 }
 
 /// Serves at most `most` links of the door, as connections numbered from 1, and hands each of them
-/// back. A connection during which serving ends isn't handed back.
+/// back. A link during which serving ends is handed back too. If the door doesn't take it, the halt
+/// is still `Write` or `Memory`.
 pub fn serve_links<K: Dispatch, D: Door, U: AuditSink>(
     dispatcher: &mut K,
     most: u32,
