@@ -33,7 +33,7 @@ use Rattle.sqlite.specs.Effect.{Database}
 use Rattle.jac_sql_spec.specs.Lasting.{ConnectionLasts, IsSeenUnmoved, LeavesStoredTables}
 use Rattle.jac_sql_spec.specs.Stands.{Stands}
 use Rattle.jac_sql_spec.specs.Tables.{no_tables, two_tables}
-use Rattle.jac_sqlkeep.specs.Based.{Based, based_keeper, tables_seen, DatabaseGoesOn, HasTables, AreCommitted, Stood, IsStanding, IsStoreOf, KeepsText, TellsStanding, Begins, IsWhole, ReadsBased, AppliesBased, ReshapesBased}
+use Rattle.jac_sqlkeep.specs.Based.{Based, based_keeper, seen_database, DatabaseGoesOn, Stood, IsStanding, IsStoreOf, KeepsText, TellsStanding, Begins, IsWhole, ReadsBased, AppliesBased, ReshapesBased}
 
 never : {A : Type 0} → IsTrue false → A
 never t = absurd (true≢false (sym t))
@@ -137,17 +137,10 @@ some_tables : (s : Schema) → s ≡ two_tables 0 1 2 → ¬ (s ≡ no_tables)
 some_tables s has none = absurd (let e : two_tables 0 1 2 ≡ no_tables = sym has ∙ none in let e2 = ap (λ (s : Schema). length s.tables) e in cc)
 
 module _ {S : Type 0} (g : Ghosts S) (kinds : List (List Kind)) (given h : Held S) where
-  same_tables : (known : Bool) → (state g h).now ≡ (state g given).now → HasTables (state g given).now (based_keeper g kinds known h)
-  same_tables known same = record { meta = ap (λ (d : Database). d.trees 0) same; rec = ap (λ (d : Database). d.trees 1) same; all = ap tables_seen same }
-
-  -- What is seen is what is committed.
-  committed_as : (known : Bool) → (state g h).now ≡ (state g h).committed → AreCommitted (based_keeper g kinds known h)
-  committed_as known settled = record { meta = ap (λ (d : Database). d.trees 0) (sym settled); rec = ap (λ (d : Database). d.trees 1) (sym settled); all = ap tables_seen (sym settled) }
-
   -- A database that is left as it was.
   pub stood_by : (b : Based) → b ≡ based_keeper g kinds false h → ConnectionLasts (state g given) (state g h) → (IsTrue (state g h).is_open → IsTrue (state g given).is_open)
       → (IsTrue (state g h).is_open → (state g h).now ≡ (state g given).now) → (IsTrue (state g h).is_open → (state g h).now ≡ (state g h).committed) → Stood g given b
-  stood_by b is lasts was same settled = subst (Stood g given) (sym is) (record { was_open = was; kept = λ opened. same_tables false (same opened); settled = λ opened. committed_as false (settled opened); closes = lasts.closes; sure = λ law. law h.store })
+  stood_by b is lasts was same settled = subst (Stood g given) (sym is) (record { was_open = was; kept = λ opened. ap seen_database (same opened); settled = λ opened. ap seen_database (sym (settled opened)); closes = lasts.closes; sure = λ law. law h.store })
 
   -- If the rows are known, they represent the known state.
   standing_of : (schema : List ℕ) → IsAllCommitted (length kinds) (state g h) → (IsTrue (state g h).is_open → schema_in (state g h).now ≡ schema) → IsTrue (state g h).is_open → IsStanding schema (based_keeper g kinds true h)
@@ -155,9 +148,9 @@ module _ {S : Type 0} (g : Ghosts S) (kinds : List (List Kind)) (given h : Held 
       let it = kept.told_by opened in
       record {
         database = (state g h).now;
-        has = record { meta = refl; rec = refl; all = refl };
+        has = refl;
         stands = subst (λ (x : List ℕ). Stands x (state g h).now (told (length kinds) (state g h).now)) (sym (schema_stands it.schema (state g h).now (told (length kinds) (state g h).now) it.stands) ∙ stored opened) it.stands;
-        settled = committed_as true (kept.settled opened);
+        settled = ap seen_database (sym (kept.settled opened));
       }
 
   -- An open connection was given with a disk that had returned what was written.
@@ -192,7 +185,7 @@ module _ {S : Type 0} (g : Ghosts S) (kinds : List (List Kind)) (given h : Held 
     stored = whole.stored;
     standing = standing_of schema whole.kept whole.stored;
     made = λ none. absurd (some_tables (state g given).now.schema has none);
-    kept = λ some opened. same_tables true (left.same opened);
+    kept = λ some opened. ap seen_database (left.same opened);
     same_state = λ some opened. ap (told (length kinds)) (left.same opened);
     same_schema = λ some opened. sym (ap schema_in (left.same opened)) ∙ whole.stored opened;
     was_clean = clean_as_given law lasts;
@@ -205,7 +198,7 @@ module _ {S : Type 0} (g : Ghosts S) (kinds : List (List Kind)) (given h : Held 
 pub other_store : {S : Type 0} (g : Ghosts S) (kinds : List (List Kind)) (given h : Held S) (b : Based) (stored : List ℕ) → b ≡ based_keeper g kinds false h → (state g given).now.schema ≡ two_tables 0 1 2 → IsSeenUnmoved (state g given) (state g h)
     → (IsTrue (state g h).is_open → schema_in (state g h).now ≡ stored) → IsTrue b.is_open → IsStoreOf stored b
 other_store g kinds given h b stored is has left found =
-    subst (λ (b : Based). IsTrue b.is_open → IsStoreOf stored b) (sym is) (λ opened. record { database = (state g given).now; has = same_tables g kinds given h false (left.same opened); form = has; stored = found opened })
+    subst (λ (b : Based). IsTrue b.is_open → IsStoreOf stored b) (sym is) (λ opened. record { form = ap (λ (d : Database). d.schema) (left.same opened) ∙ has; stored = found opened })
 
 -- A database to which nothing was done.
 pub stood_here : {S : Type 0} (g : Ghosts S) (kinds : List (List Kind)) (h : Held S) (b : Based) → b ≡ based_keeper g kinds false h → (IsTrue (state g h).is_open → (state g h).now ≡ (state g h).committed) → Stood g h b

@@ -1,12 +1,15 @@
 -- What contracts see of a keeper's database.
-use Rattle.std.specs.Prelude.{◌≡◌, ◌≤◌, ◌⊎◌, ℕ, Bool, ◌&&◌, List, length, map, Option, Some, None, IsTrue, Result, Ok, Err, IfOk, OnOk, OnErr}
+use Rattle.std.specs.Prelude.{◌≡◌, ◌≤◌, ◌⊎◌, ℕ, Bool, ◌&&◌, ◌-◌, List, ◌∷◌, ◌++◌, length, map, Option, Some, None, IsTrue, Result, Ok, Err, IfOk, OnOk, OnErr}
 use Rattle.sqlite_trees.specs.declared.store.Store.{Ghosts}
 use Rattle.sqlite_trees.specs.View.{doubt}
 use Rattle.sqlite.specs.declared.error.Error.{Error}
+use Rattle.sqlite_trees.specs.Objects.{catalog_tree, version_tree, number_in}
+use Rattle.sqlite_trees.specs.Tree.{rowid}
 use Rattle.sqlite_value.specs.Order.{Row as Values}
-use Rattle.sqlite_schema.specs.declared.schema.Column.{Column}
 use Rattle.sqlite_schema.specs.declared.schema.Table.{Table}
-use Rattle.sqlite.specs.Effect.{Database as Tables}
+use Rattle.sqlite_schema.specs.declared.schema.Index.{Index}
+use Rattle.sqlite_schema.specs.declared.schema.Schema.{Schema}
+use Rattle.sqlite.specs.Effect.{Database}
 use Rattle.sqlite.specs.Held.{Held, state}
 use Rattle.sqlite.specs.State.{HasCleanDisk}
 use Rattle.jac_io.specs.Faults.{Rose}
@@ -22,23 +25,26 @@ use Rattle.jac_sql_spec.specs.Tables.{no_tables, two_tables}
 use Rattle.jac_sql_spec.specs.Telling.{empty_state, IsAllCommitted}
 use Rattle.jac_sql_spec.specs.Told.{told, schema_in}
 
--- A table: its name, the names of its columns, and its rows.
-pub record TableSeen : Type 0 where
-  pub name : List ℕ
-  pub columns : List (List ℕ)
-  pub rows : List Values
+-- All trees of a database. First its list of objects, its version number, its tables and its
+-- indexes. Then the tree of each object in the list. The list also has objects that SQL here
+-- doesn't understand.
+abbrev pub all_trees : Database → List ℕ
+all_trees db = catalog_tree ∷ version_tree ∷ (map (λ (t : Table). t.tree) db.schema.tables
+    ++ (map (λ (i : Index). i.tree) db.schema.indexes
+    ++ map (λ (row : Values). number_in (rowid row) - 1) (db.trees catalog_tree)))
 
--- All tables of a database.
-abbrev pub tables_seen : Tables → List TableSeen
-tables_seen db = map (λ (t : Table). record {
-  name = t.name;
-  columns = map (λ (c : Column). c.name) t.columns;
-  rows = db.trees t.tree;
-}) db.schema.tables
+-- The whole of a database: its schema, and the rows of all its trees. The schema has the columns of
+-- the tables, the indexes and the views.
+pub record DatabaseSeen : Type 0 where
+  pub schema : Schema
+  pub rows : List (List Values)
+
+abbrev pub seen_database : Database → DatabaseSeen
+seen_database db = record { schema = db.schema; rows = map db.trees (all_trees db) }
 
 -- The kinds of its models' fields. Whether its connection is open, whether its disk has returned
--- what was written, and how often that failed. Its schema text. The rows of the two tables of a
--- store, and all tables, as they are seen and as they are committed. Whether its state is known,
+-- what was written, and how often that failed. Its schema text. The whole database, with its
+-- indexes and views, as the connection sees it and as it is committed. Whether its state is known,
 -- and its state.
 pub record Based : Type 0 where
   pub kinds : List (List Kind)
@@ -46,12 +52,8 @@ pub record Based : Type 0 where
   pub is_clean : Bool
   pub faults : ℕ
   pub schema : List ℕ
-  pub meta : List Values
-  pub rec : List Values
-  pub tables : List TableSeen
-  pub committed_meta : List Values
-  pub committed_rec : List Values
-  pub committed_tables : List TableSeen
+  pub now : DatabaseSeen
+  pub committed : DatabaseSeen
   pub tells : Bool
   pub state : State
 
@@ -63,12 +65,8 @@ based_keeper g kinds known h = record {
   is_clean = (state g h).is_clean;
   faults = (state g h).faults;
   schema = schema_in (state g h).now;
-  meta = (state g h).now.trees 0;
-  rec = (state g h).now.trees 1;
-  tables = tables_seen (state g h).now;
-  committed_meta = (state g h).committed.trees 0;
-  committed_rec = (state g h).committed.trees 1;
-  committed_tables = tables_seen (state g h).committed;
+  now = seen_database (state g h).now;
+  committed = seen_database (state g h).committed;
   tells = known && (state g h).is_open;
   state = told (length kinds) (state g h).now;
 }
@@ -77,35 +75,24 @@ based_keeper g kinds known h = record {
 abbrev pub NeverShut : {S : Type 0} → Ghosts S → Type 0
 NeverShut {S} g = (s : S) → IsTrue (g.view s).is_open
 
--- The tables are those of `db`.
-pub record HasTables (db : Tables) (b : Based) : Type 0 where
-  pub meta : b.meta ≡ db.trees 0
-  pub rec : b.rec ≡ db.trees 1
-  pub all : b.tables ≡ tables_seen db
-
--- The tables are committed as they are seen.
-pub record AreCommitted (b : Based) : Type 0 where
-  pub meta : b.committed_meta ≡ b.meta
-  pub rec : b.committed_rec ≡ b.rec
-  pub all : b.committed_tables ≡ b.tables
-
--- As long as the connection is open, all tables are those that were given, and they are committed.
--- Only a fault of the disk shuts the connection.
+-- As long as the connection is open, the whole database is as it was given, with its indexes and
+-- views. All of it is committed. Only a fault of the disk shuts the connection.
 pub record Stood {S : Type 0} (g : Ghosts S) (given : Held S) (b : Based) : Type 0 where
   pub was_open : IsTrue b.is_open → IsTrue (state g given).is_open
-  pub kept : IsTrue b.is_open → HasTables (state g given).now b
-  pub settled : IsTrue b.is_open → AreCommitted b
+  pub kept : IsTrue b.is_open → b.now ≡ seen_database (state g given).now
+  pub settled : IsTrue b.is_open → b.committed ≡ b.now
   pub closes : doubt b.is_clean ≡ 0 → IsTrue (state g given).is_open
       → IsTrue b.is_open ⊎ Rose (state g given).faults b.faults
   pub sure : NeverShut g → IsTrue b.is_open
 
--- The whole database is well formed: it has the two tables of a store and no others, and their rows
--- represent the state, with this schema text. It is also committed.
+-- The whole database is well formed: it has the two tables of a store with their index, and no
+-- other table, index or view. Their rows represent the state, with this schema text. All of the
+-- database is committed.
 pub record IsStanding (schema : List ℕ) (b : Based) : Type 0 where
-  pub database : Tables
-  pub has : HasTables database b
+  pub database : Database
+  pub has : b.now ≡ seen_database database
   pub stands : Stands schema database b.state
-  pub settled : AreCommitted b
+  pub settled : b.committed ≡ b.now
 
 -- If the state is known, the database is well formed, with its schema text, and committed.
 abbrev pub TellsStanding : Based → Type 0
@@ -126,8 +113,9 @@ pub record DatabaseGoesOn {S : Type 0} (g : Ghosts S) (old new : Based) : Type 0
 
 -- A database that may be called. While its connection is open, it has the schema, and its state is
 -- known and fits the schema. It is well formed and committed. If there was no table, it was made
--- empty and with the number 1. Otherwise its tables and its state are those that were stored.
--- They were read from a disk that had returned what was written.
+-- empty and with the number 1. Otherwise the whole database is as it was given, with its indexes
+-- and views, and its state is the one that was stored. It was read from a disk that had returned
+-- what was written.
 pub record Begins {S : Type 0} (g : Ghosts S) (schema : List ℕ) (kinds : List (List Kind))
     (nested : List Bool) (given : Held S) (b : Based) : Type 0 where
   pub tells : b.tells ≡ b.is_open
@@ -137,7 +125,7 @@ pub record Begins {S : Type 0} (g : Ghosts S) (schema : List ℕ) (kinds : List 
   pub made : (state g given).now.schema ≡ no_tables → IsTrue b.is_open
       → b.state ≡ empty_state (length kinds)
   pub kept : ¬ ((state g given).now.schema ≡ no_tables) → IsTrue b.is_open
-      → HasTables (state g given).now b
+      → b.now ≡ seen_database (state g given).now
   pub same_state : ¬ ((state g given).now.schema ≡ no_tables) → IsTrue b.is_open
       → b.state ≡ told (length kinds) (state g given).now
   pub same_schema : ¬ ((state g given).now.schema ≡ no_tables) → IsTrue b.is_open
@@ -148,11 +136,10 @@ pub record Begins {S : Type 0} (g : Ghosts S) (schema : List ℕ) (kinds : List 
       → IsTrue b.is_open ⊎ Rose (state g given).faults b.faults
   pub sure : NeverShut g → IsTrue b.is_open
 
--- The database has the tables of a store, and no others, and this schema text.
+-- The database has the two tables of a store with their index, and no other table, index or view.
+-- It has this schema text.
 pub record IsStoreOf (schema : List ℕ) (b : Based) : Type 0 where
-  pub database : Tables
-  pub has : HasTables database b
-  pub form : database.schema ≡ two_tables 0 1 2
+  pub form : b.now.schema ≡ two_tables 0 1 2
   pub stored : b.schema ≡ schema
 
 -- What opening a database gives: a database that may be called, or one that is left as it was and

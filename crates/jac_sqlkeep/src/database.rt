@@ -40,9 +40,13 @@ impl<S: Alter> Model for Database<S> {
     ghost use Rattle.std.specs.Prelude.{◌≡◌, IsTrue, false, length};
     ghost use Rattle.sqlite.specs.Held.{state};
     ghost use Rattle.jac_sql_spec.specs.Telling.{IsAllCommitted};
+    ghost use Rattle.std.specs.Coded.{codes};
+    ghost use Rattle.sqlite_schema.specs.contracts.schema.Schema as schema;
     ghost use Rattle.jac_sqlkeep.specs.Based.{Based, based_keeper};
 
     ghost Value = { Based };
+
+    ghost coded = { Prim.hlevel (codes, schema.the_row.coded) };
 
     ghost view = { λ d. based_keeper S.Store d.shape.kinds d.known d.conn };
 

@@ -44,9 +44,13 @@ pub struct SqlKeeper<O: Opener> {
 
 impl<O: Opener> Model for SqlKeeper<O> {
     ghost use Rattle.std.specs.Prelude.{is_some, IsTrue, IfSome};
+    ghost use Rattle.std.specs.Coded.{codes};
+    ghost use Rattle.sqlite_schema.specs.contracts.schema.Schema as tables;
     ghost use Rattle.jac_sqlkeep.specs.Kept.{Kept, IsKnownAs};
 
     ghost Value = { Kept };
+
+    ghost coded = { Prim.hlevel (codes, tables.the_row.coded) };
 
     ghost view = { λ k. record { store = record { called = k.called; attached = is_some k.database; schema = k.schema; name = k.name }; faults = k.faults; unopened = O.faults k.opener; given = O.gave k.opener; database = k.database; refused = k.refused } };
 
