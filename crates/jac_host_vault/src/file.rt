@@ -23,9 +23,13 @@ pub struct FileKeeper<O: FileOpens> {
 }
 
 impl<O: FileOpens> Model for FileKeeper<O> {
+    ghost use Rattle.std.specs.Coded.{codes};
+    ghost use Rattle.sqlite_schema.specs.contracts.schema.Schema as tables;
     ghost use Rattle.jac_sqlkeep.specs.Kept.{Kept};
 
     ghost Value = { Kept };
+
+    ghost coded = { Prim.hlevel (codes, tables.the_row.coded) };
 
     ghost view = { λ k. k.keeper };
 }
