@@ -17,8 +17,8 @@ IsOnlyRefused g Gives k = (k.given ≡ 1) × IsSomeAnd k.refused (StoodAs g Give
 
 -- A file that wasn't attached is left as its opener gave it. If another schema is known, it is a
 -- store with this schema. If no schema is known and a fault was counted, either the file was opened
--- and isn't a store that can be read, or it wasn't opened. If no schema is known and no fault was
--- counted, memory ran out, after the file was opened or before. No file was opened twice.
+-- and refused, or it wasn't opened. If no schema is known and no fault was counted, memory ran out,
+-- after the file was opened or before. No file was opened twice.
 pub record IsFileLeft {S : Type 0} (g : Ghosts S) (Gives : Held S → Type 0) (k : Kept) : Type 0
   where
     pub other : (stored : List ℕ) → k.store.schema ≡ Some stored → (k.given ≡ 1)

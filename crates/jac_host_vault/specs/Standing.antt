@@ -32,7 +32,6 @@ IsStoreStanding s h = IsTrue (seen_host s seen_kept h).tells
     (IsFileStanding (seen_host s seen_kept h)))
 
 -- As long as the file wasn't opened again, one opener was made, which gave one connection at most.
--- If no file was asked for, none was made.
 abbrev pub IsOpenedOnce : HostSeen Kept → Type 0
 IsOpenedOnce h = IfSome h.file (λ (f : ReopenSeen Kept). IsOnlyVault f
     × IfSome f.first (λ (k : Kept). k.given ≤ 1))

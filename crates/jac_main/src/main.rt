@@ -98,13 +98,14 @@ struct Host<'h, O: Outside> {
 
 // The run over the host, before anything was asked of it. It reaches the machine only by these
 // arguments. `O` is what is supposed of the outside: if the files that were read and the input that
-// was taken are as `O` says, each clause holds of the bytes that writes took. `F` opens the store's
-// file and supposes what it holds: if its bytes are as `F` says, each clause about what was stored
-// holds of the store that they represent. A file that isn't attached at the end is left as it was
-// opened. If the status is 9, that file is a store with another schema. If a file is attached and
-// its state is known at the end, its database is well formed and committed, with the store's schema
-// text. One opener is made, unless a fault closed the store. The input of each connection that was
-// handed back ends for good, so some input agrees with all that was read from it.
+// was taken are as `O` says, each clause holds of the bytes that writes took. `F` makes what opens
+// the store's file, and supposes what it holds: if its bytes are as `F` says, each clause about
+// what was stored holds of the store that they represent. A file that isn't attached at the end is
+// left as it was opened. If the status is 9, that file is a store with another schema, unless it
+// was supposed to have this schema. If a file is attached and its state is known at the end, its
+// database is well formed and committed, with the store's schema text. `F` makes one opener,
+// unless a fault closed the store. The input of each connection that was handed back ends for
+// good, so some input agrees with all that was read from it.
 fn run_host<O: Outside, F: MakesOpeners, L: Ledger, M: Ledger>(
     alloc: Global,
     words: &[Txt],
