@@ -191,7 +191,7 @@ const RUN_FAULTS: [RunFault; 11] = [
         audit: 2,
         status: Status::WriteFault,
         out: b"write fault\n",
-        handed: 0,
+        handed: 1,
         lines: b"",
     },
     RunFault {
@@ -199,7 +199,7 @@ const RUN_FAULTS: [RunFault; 11] = [
         audit: 3,
         status: Status::WriteFault,
         out: b"write fault\n",
-        handed: 0,
+        handed: 1,
         lines: b"1",
     },
     RunFault {
@@ -207,7 +207,7 @@ const RUN_FAULTS: [RunFault; 11] = [
         audit: 4,
         status: Status::WriteFault,
         out: b"write fault\n",
-        handed: 0,
+        handed: 1,
         lines: b"1 200 - -\n",
     },
     RunFault {
@@ -215,7 +215,7 @@ const RUN_FAULTS: [RunFault; 11] = [
         audit: 6,
         status: Status::WriteFault,
         out: b"write fault\n",
-        handed: 1,
+        handed: 2,
         lines: b"1 200 - -\n2 200 - -\n",
     },
     RunFault {
@@ -223,7 +223,7 @@ const RUN_FAULTS: [RunFault; 11] = [
         audit: 7,
         status: Status::WriteFault,
         out: b"write fault\n",
-        handed: 1,
+        handed: 2,
         lines: b"1 200 - -\n2 200 - -\n3",
     },
 ];
