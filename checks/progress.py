@@ -40,45 +40,30 @@ trial.run_telling(['sleep', '600'], sys.argv[1])
 '''
 PROOF = '''
 import build
-from schedule import Schedule, Task
 
-build.EVERY, build.MEASURED = 0.5, os.path.join(sys.argv[1], 'out', 'measured.json')
-
-
-class Sleep:
-    def __init__(self, name, words):
-        self.name, self.process = name, subprocess.Popen(words)
-        self.print_log = lambda: None
-
-    poll = lambda self: self.process.poll()
-    failed = lambda self: self.process.returncode != 0
-    failure = build.Proof.failure
-
-
-def task(name, after, *words):
-    return Task(name, after, 5, 1, lambda jobs: Sleep(name, words))
-
-
+build.EVERY = 0.5
 for number in signal.SIGTERM, signal.SIGHUP, signal.SIGINT:
     signal.signal(number, build.stop_by)
-tasks = {
-    'long': [task('first', [], 'true'), task('second', ['first'], 'sleep', '600')],
-    'wrong': [task('first', [], 'false')],
-    'killed': [task('first', [], 'bash', '-c', 'kill -KILL $$')],
+rt = {
+    'long': 'echo rt: first is kept: an earlier run; echo rt: second proved; exec sleep 600',
+    'right': 'echo rt: first proved; sleep 1.2; echo == second; echo rt: second proved; echo rt: third proved',
+    'wrong': 'echo == first; echo its log; echo rt: first proved; echo == second; echo a goal; echo rt: second NOT PROVED; '
+             'echo rt: third NOT PROVED: its library second failed; exit 1',
+    'refused': 'echo why; exit 2',
+    'killed': 'echo rt: first proved; kill -KILL $$',
 }[sys.argv[2]]
-sys.exit(0 if build.prove_or_stop(Schedule(tasks, 2, 1000)) else 70)
+crates = {'first': [], 'second': ['first'], 'third': ['second']}
+sys.exit(0 if build.prove(['bash', '-c', rt], sys.argv[1], crates) else 70)
 '''
-THOUGHT = '''
-import build
-from costs import Cost
-took = {'a': 20.0, 'b': 40.0}
-print(build.minutes_thought({name: Cost(10, 1) for name in 'abc'}, took), build.minutes_thought({'a': Cost(10, 1)}, {}))
-build.MEASURED = os.path.join(sys.argv[1], 'measured.json')
-print(build.measured())
-for text in '[]', 'x', '{"a": "b"}', '{"a": 2}':
-    with open(build.MEASURED, 'w') as file:
-        file.write(text)
-    print(build.measured())
+COPY = '''
+import build, crates
+names = crates.below('jac_rows')
+build.copy(names, sys.argv[1] + '/copy')
+found = sorted(os.listdir(sys.argv[1] + '/copy/crates'))
+print(found == sorted(names), sorted(os.listdir(sys.argv[1] + '/copy')))
+with open(sys.argv[1] + '/copy/crates.txt') as lines:
+    print([line.partition(':')[0] for line in lines] == list(names))
+print([name for _, folders, _ in os.walk(sys.argv[1]) for name in folders if name in ('out', 'must-fail')])
 '''
 BEGIN = '''import os, signal, subprocess, sys
 sys.path.insert(0, %r)
@@ -136,19 +121,26 @@ def cases():
         status, told = stopped(STOPPED, 'begun', how)
         yield expect('a build that is stopped', status, 128 + how)
         yield said('a build that is stopped', told, 'jac: the trial is not built: stopped by %s\n' % how.name)
-        status, told = stopped(PROOF, 'under way: second', how, 'long')
+        status, told = stopped(PROOF, '2 of 3 crates', how, 'long')
         yield expect('a proof that is stopped', status, 128 + how)
-        yield said('a proof that is stopped', told, 'first proved: 1 of 2 crates',
-                   'by the table of costs, and none measured here yet',
-                   'jac: stopped by %s: 1 of 2 crates are proved and kept, .* under way was second\n' % how.name)
+        yield said('a proof that is stopped', told, 'proving and building third; 0 of 3 crates', 'by the table of costs',
+                   'jac: stopped by %s: 2 of 3 crates are proved\n' % how.name)
+    status, _, told = ended(PROOF, 'right')
+    yield expect('a proof', status, 0)
+    yield said('a proof', told, '1 of 3 crates, less than a minute gone', 'third is proved and built, in less than')
     status, _, told = ended(PROOF, 'wrong')
-    yield expect('a proof that fails', (status, told), (70, 'jac: first is not proved: its log is above\n'))
+    yield expect('a proof that fails', status, 70)
+    yield said('a proof that fails', told, '== second\na goal\nrt: second NOT PROVED\n',
+               'jac: second is not proved: its log is above\n$')
+    yield expect('the log of another crate', 'its log\n' in told, False)
+    status, _, told = ended(PROOF, 'refused')
+    yield expect('a command that fails', status, 70)
+    yield said('a command that fails', told, 'why\njac: rt ended with status 2: its log is above\n$')
     status, _, told = ended(PROOF, 'killed')
-    yield expect('a proof that is killed', (status, told),
-                 (70, 'jac: first was ended by SIGKILL, as the system does where memory runs out\n'))
-    status, out, told = ended(THOUGHT)
-    yield expect('what is thought', out.split('\n')[0], "{'a': 20.0, 'b': 40.0, 'c': 30.0} {'a': 10}")
-    yield expect('what is kept', out.split('\n')[1:], ['{}', '{}', '{}', '{}', "{'a': 2.0}", ''])
+    yield expect('a proof that is killed', status, 70)
+    yield said('a proof that is killed', told, 'jac: rt was ended by SIGKILL, as the system does where memory runs out\n')
+    status, out, told = ended(COPY)
+    yield expect('a copy of crates', (status, out), (0, "True ['.git', 'HANDLES', 'crates', 'crates.txt']\nTrue\n[]\n"))
 
 
 def main():

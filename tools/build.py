@@ -1,14 +1,15 @@
 #!/usr/bin/env python3
 """Proves and builds a program.
 
-A crate is proved after the crates that it uses. As many crates are proved in parallel as processors and memory allow.
-Those for which the longest chain of other crates waits are proved first (`schedule.py`). Every 20 seconds a line on
-standard error says which crates are done and which are being proved, how many minutes have passed, and how many are
-expected to be left. The estimate uses the times of earlier runs in this clone (`out/measured.json`). For other crates
-it uses the table of costs in docs/TESTING.md, scaled by how much longer crates took here. If a proof fails, its log is
-printed, and the exit status is 70."""
-import json
+Runs the kit's `rt ci` over the program's crate and its lower crates, in a copy that has none of their wrong bodies. The
+kit decides which crates are proved in parallel. A kit that keeps proofs keeps these too, for later runs and for the
+gate. Every 20 seconds a line on standard error says how many crates are proved, how many minutes have passed, and how
+many are expected to be left by the table of costs in docs/TESTING.md. If a proof fails, its log is printed, and the
+exit status is 70."""
 import os
+import re
+import selectors
+import shutil
 import signal
 import subprocess
 import sys
@@ -19,13 +20,15 @@ sys.dont_write_bytecode = True
 import kit                                                                  # noqa: E402
 from arguments import script_parser                                         # noqa: E402
 from costs import costs                                                     # noqa: E402
-from crates import PROGRAM, TOP, below, files, folder                       # noqa: E402
+from crates import PROGRAM, TOP, below                                      # noqa: E402
 from program import PROVED, State, is_current                               # noqa: E402
-from schedule import Schedule, Task                                         # noqa: E402
+from schedule import Task, computed, processors                             # noqa: E402
 
-EVERY = 20      # seconds until the next progress line, if no crate begins or ends
-STEP = '--step'
-MEASURED = os.path.join(TOP, 'out', 'measured.json')
+EVERY = 20      # seconds until the next progress line
+LEFT_OUT = 'out', 'must-fail'
+PROVED_LINE = re.compile(r'rt: (\w+) proved\n')
+KEPT_LINE = re.compile(r'rt: (\w+) is kept: ')
+FAILED_LINE = re.compile(r'rt: (\w+) NOT PROVED')
 
 
 class Stopped(SystemExit):
@@ -40,154 +43,143 @@ def tell(text):
     print('jac: ' + text, file=sys.stderr, flush=True)
 
 
-def step(words):
-    """Runs `rt` with these arguments in the current folder, which is the crate's. This function runs in a process of
-    its own, in parallel with others that use the same lower crates."""
-    rt = kit.load()
-    kit.remember_stamps(rt.rtlib, os.getcwd())
-    kit.share_below(rt.rtlib)
-    return rt.main(words)
-
-
-class Proof:
-    """The running proof of one crate."""
-
-    def __init__(self, name, is_program, jobs):
-        self.name = name
-        self.program = os.path.join(folder(name), 'out', name) if is_program else None
-        self.log = tempfile.TemporaryFile()
-        words = [sys.executable, os.path.abspath(__file__), STEP, 'run' if is_program else 'lib', '--jobs', str(jobs)]
-        self.process = subprocess.Popen(
-            words, cwd=folder(name), stdin=subprocess.DEVNULL, stdout=self.log, stderr=subprocess.STDOUT)
-
-    def poll(self):
-        return self.process.poll()
-
-    def failed(self):
-        # `rt run` also runs the program, without arguments, so the exit status says nothing about the proof
-        if self.program:
-            return not os.access(self.program, os.X_OK)
-        return self.process.returncode != 0
-
-    def failure(self):
-        """Why it failed, in words."""
-        if self.process.returncode < 0:
-            name = signal.Signals(-self.process.returncode).name
-            return 'was ended by %s%s' % (name,
-                                          ', as the system does where memory runs out' if name == 'SIGKILL' else '')
-        return 'is not proved: its log is above'
-
-    def print_log(self):
-        self.log.seek(0)
-        sys.stderr.flush()
-        sys.stderr.buffer.write(self.log.read())
-        sys.stderr.flush()
-
-
-def is_kept(name, names):
-    """Whether the crate's library seems newer than its sources and those of its lower crates. `rt lib` decides."""
-    try:
-        built = os.stat(os.path.join(folder(name), 'out', 'rlib', 'stamp')).st_mtime
-    except OSError:
-        return False
-    return all(os.stat(path).st_mtime < built for other in names for path in files(other))
-
-
-def measured():
-    """The processor minutes that crates took in this clone, by name."""
-    try:
-        with open(MEASURED, encoding='utf-8') as file:
-            return {name: float(minutes) for name, minutes in json.load(file).items()}
-    except (OSError, ValueError, AttributeError, TypeError):
-        return {}
-
-
-def remember(runs):
-    """Stores how long these proofs took."""
-    took = {run.task.name: round(run.work(), 2) for run in runs if run.minutes() > 0.1 and not run.run.failed()}
-    if took:
-        os.makedirs(os.path.dirname(MEASURED), exist_ok=True)
-        with open(MEASURED + '.new', 'w', encoding='utf-8') as file:
-            json.dump({**measured(), **took}, file, indent=1, sort_keys=True)
-        os.replace(MEASURED + '.new', MEASURED)
-
-
-def minutes_thought(thought, took):
-    """The expected minutes of each crate: those that it took here, or else those of the table, scaled by how much
-    longer other crates took here."""
-    known = [name for name in thought if name in took]
-    table = sum(thought[name].proof for name in known)
-    ratio = sum(took[name] for name in known) / table if table > 1 else 1
-    return {name: took.get(name, cost.proof * ratio) for name, cost in thought.items()}
-
-
-def tasks_for(program):
-    """A task for each lower crate of the program, and one for the program."""
-    every = below(program)
-    thought = costs(every)
-    expected = minutes_thought(thought, measured())
-    for name, names in every.items():
-        kept = is_kept(name, below(name))
-        yield Task(name, names, 0.05 if kept else expected[name], thought[name].memory,
-                   lambda jobs, name=name: Proof(name, name == program, jobs))
-
-
 def minutes(number):
     return '%d min' % round(number) if number >= 1 else 'less than a minute'
 
 
-def state_of(schedule):
-    left = schedule.left()
-    under_way = ', '.join(name + (' for %d min' % run.minutes() if run.minutes() >= 1 else '')
-                          for name, run in schedule.running.items())
-    by = 'what crates took here' if schedule.measured()[1] > 1 or measured() else \
-        'the table of costs, and none measured here yet'
-    return '%d of %d crates, %s gone, %s%s left by %s%s' % (
-        len(schedule.done), len(schedule.tasks), minutes(schedule.minutes()), 'about ' if left >= 1 else '',
-        minutes(left), by,
-        '; under way: ' + under_way if under_way else '')
+def copy(names, folder):
+    """Copies what a proof of these crates reads into a folder, and makes it the top of a repository for the kit."""
+    for name in names:
+        shutil.copytree(os.path.join(TOP, 'crates', name), os.path.join(folder, 'crates', name),
+                        ignore=shutil.ignore_patterns(*LEFT_OUT))
+    with open(os.path.join(TOP, 'crates.txt'), encoding='utf-8') as every:
+        lines = [line for line in every if line.partition(':')[0].split()[:1] in [[name] for name in names]]
+    with open(os.path.join(folder, 'crates.txt'), 'w', encoding='utf-8') as chosen:
+        chosen.writelines(lines)
+    shutil.copyfile(os.path.join(TOP, 'HANDLES'), os.path.join(folder, 'HANDLES'))
+    os.mkdir(os.path.join(folder, '.git'))
 
 
-def prove(schedule):
-    """Runs the tasks, and returns whether all succeeded."""
+class Progress:
+    """What `rt ci` has printed about crates: those that it proved, those whose proofs an earlier run kept, and those
+    that failed, with their logs."""
+
+    def __init__(self, crates):
+        """`crates` has for each crate the crates that it uses, lowest first."""
+        self.crates, self.began = crates, time.monotonic()
+        self.proved, self.kept, self.failed, self.log, self.told = set(), set(), [], [], []
+
+    def read(self, line):
+        if line.startswith('== '):
+            self.log = []
+        self.log.append(line)
+        if found := PROVED_LINE.fullmatch(line):
+            self.proved.add(found.group(1))
+            return True
+        if found := KEPT_LINE.match(line):
+            self.kept.add(found.group(1))
+        elif found := FAILED_LINE.match(line):
+            self.failed.append(found.group(1))
+            self.told += self.log
+            self.log = []
+        return False
+
+    def minutes(self):
+        return (time.monotonic() - self.began) / 60
+
+    def computed(self, names):
+        """The minutes that these proofs would take by the table of costs."""
+        cost = costs(names)
+        return computed([Task(name, [other for other in self.crates[name] if other in names], cost[name].proof,
+                              cost[name].memory, None) for name in names], processors()) if names else 0
+
+    def left(self):
+        """The minutes that are expected to be left: those of the table, scaled by how long the proofs took so far."""
+        new = [name for name in self.crates if name not in self.kept]
+        left = self.computed([name for name in new if name not in self.proved])
+        past = self.computed(new) - left
+        return left * (self.minutes() / past if past > 1 else 1)
+
+    def __str__(self):
+        left = self.left()
+        return '%d of %d crates, %s gone, %s%s left by the table of costs' % (
+            len(self.proved | self.kept), len(self.crates), minutes(self.minutes()), 'about ' if left >= 1 else '',
+            minutes(left))
+
+
+def lines_of(process):
+    """The lines that a process prints, each as soon as it is there, and None whenever it has printed none for a while.
+    Ends when the process has closed its output."""
+    text = b''
+    with selectors.DefaultSelector() as ready:
+        ready.register(process.stdout, selectors.EVENT_READ)
+        while True:
+            if not ready.select(EVERY):
+                yield None
+                continue
+            more = os.read(process.stdout.fileno(), 1 << 16)
+            if not more:
+                return
+            *whole, text = (text + more).split(b'\n')
+            yield from (line.decode(errors='replace') + '\n' for line in whole)
+
+
+def follow(process, progress):
+    """Prints the progress until the process ends."""
     told = time.monotonic()
-    while not schedule.is_over():
-        began = schedule.begin()
-        time.sleep(0.2)
-        ended = schedule.ended()
-        remember(ended)
-        for proof in (run.run for run in ended):
-            if proof.failed():
-                proof.print_log()
-                tell('%s %s' % (proof.name, proof.failure()))
-                return False
-        names = ', '.join(run.task.name for run in ended)
-        if ended and not schedule.is_over():
-            tell('%s proved: %s' % (names, state_of(schedule)))
-        elif time.monotonic() - told > EVERY:
-            tell(state_of(schedule))
-        if ended or began or time.monotonic() - told > EVERY:
+    for line in lines_of(process):
+        proved = line is not None and progress.read(line)
+        if time.monotonic() - told > EVERY or proved and time.monotonic() - told > EVERY / 4:
+            tell(str(progress))
             told = time.monotonic()
+    process.wait()
+
+
+def why_not(process, progress):
+    """Why the process proved less than it should, in words, or None."""
+    if progress.failed:
+        return '%s is not proved: its log is above' % progress.failed[0]
+    if process.returncode < 0:
+        name = signal.Signals(-process.returncode).name
+        return 'rt was ended by %s%s' % (name, ', as the system does where memory runs out' if name == 'SIGKILL' else '')
+    if process.returncode:
+        return 'rt ended with status %d: its log is above' % process.returncode
+    return None
+
+
+def prove(words, folder, crates):
+    """Runs this command in the folder, which proves the crates. Returns whether it succeeded. After a signal it prints
+    how many crates are proved."""
+    progress = Progress(crates)
+    tell('proving and building %s; %s' % (list(crates)[-1], progress))
+    process = subprocess.Popen(words, cwd=folder, stdin=subprocess.DEVNULL, stdout=subprocess.PIPE,
+                               stderr=subprocess.STDOUT, start_new_session=True)
+    try:
+        follow(process, progress)
+    except Stopped as stopped:
+        tell('stopped by %s: %d of %d crates are proved' % (
+            stopped.name, len(progress.proved | progress.kept), len(crates)))
+        raise
+    finally:
+        if process.poll() is None:
+            os.killpg(process.pid, signal.SIGTERM)
+            process.wait()
+    why = why_not(process, progress)
+    if why:
+        sys.stderr.writelines(progress.told or progress.log)
+        tell(why)
+        return False
+    tell('%s is proved and built, in %s' % (list(crates)[-1], minutes(progress.minutes())))
     return True
 
 
-def stop(schedule):
-    for run in schedule.running.values():
-        run.run.process.terminate()
-        run.run.process.wait()
-
-
-def prove_or_stop(schedule):
-    """Runs the tasks until they end or a signal arrives. After a signal, prints which proofs are kept."""
-    try:
-        return prove(schedule)
-    except Stopped as stopped:
-        tell('stopped by %s: %d of %d crates are proved and kept, and the next ./prove goes on with the others; under '
-             'way '
-             'was %s' % (stopped.name, len(schedule.done), len(schedule.tasks), ', '.join(schedule.running) or 'none'))
-        raise
-    finally:
-        stop(schedule)
+def take(folder, program):
+    """Moves the program that was built in this folder to where `jac` finds it."""
+    made, place = (os.path.join(top, 'crates', program, 'out', program) for top in (folder, TOP))
+    if os.path.isfile(made):
+        os.makedirs(os.path.dirname(place), exist_ok=True)
+        shutil.copy2(made, place + '.new')
+        os.replace(place + '.new', place)
 
 
 def build(program):
@@ -195,18 +187,18 @@ def build(program):
     if program == PROGRAM and is_current(PROVED):
         tell('the program stands, proved and built of these sources')
         return 0
-    kit.path()
-    state = State(PROVED)
-    schedule = Schedule(tasks_for(program))
-    tell('proving and building %s; %s' % (program, state_of(schedule)))
-    if not prove_or_stop(schedule):
-        return 70
-    if State(PROVED).content != state.content:
-        tell('the sources have changed meanwhile: once more')
-        return build(program)
+    rt, state, crates = kit.path(), State(PROVED), below(program)
+    with tempfile.TemporaryDirectory(prefix='jac-prove-') as room:
+        folder = os.path.join(room, 'copy')
+        copy(crates, folder)
+        if not prove([rt, 'ci'], folder, crates):
+            return 70
+        if State(PROVED).content != state.content:
+            tell('the sources have changed meanwhile: once more')
+            return build(program)
+        take(folder, program)
     if program == PROGRAM:
         state.note(PROVED)
-    tell('%s is proved and built, in %s' % (program, minutes(schedule.minutes())))
     return 0
 
 
@@ -222,8 +214,6 @@ def main():
 
 
 if __name__ == '__main__':
-    if sys.argv[1:2] == [STEP]:
-        sys.exit(step(sys.argv[2:]))
     # so that running proofs end with this script
     for number in signal.SIGTERM, signal.SIGHUP, signal.SIGINT:
         signal.signal(number, stop_by)
