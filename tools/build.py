@@ -20,12 +20,11 @@ sys.dont_write_bytecode = True
 import kit                                                                  # noqa: E402
 from arguments import script_parser                                         # noqa: E402
 from costs import costs                                                     # noqa: E402
-from crates import PROGRAM, TOP, below                                      # noqa: E402
+from crates import PROGRAM, TOP, below, copy_crate                          # noqa: E402
 from program import PROVED, State, is_current                               # noqa: E402
 from schedule import Task, computed, processors                             # noqa: E402
 
 EVERY = 20      # seconds until the next progress line
-LEFT_OUT = 'out', 'must-fail'
 PROVED_LINE = re.compile(r'rt: (\w+) proved\n')
 KEPT_LINE = re.compile(r'rt: (\w+) is kept: ')
 FAILED_LINE = re.compile(r'rt: (\w+) NOT PROVED')
@@ -50,8 +49,7 @@ def minutes(number):
 def copy(names, folder):
     """Copies what a proof of these crates reads into a folder, and makes it the top of a repository for the kit."""
     for name in names:
-        shutil.copytree(os.path.join(TOP, 'crates', name), os.path.join(folder, 'crates', name),
-                        ignore=shutil.ignore_patterns(*LEFT_OUT))
+        copy_crate(name, folder)
     with open(os.path.join(TOP, 'crates.txt'), encoding='utf-8') as every:
         lines = [line for line in every if line.partition(':')[0].split()[:1] in [[name] for name in names]]
     with open(os.path.join(folder, 'crates.txt'), 'w', encoding='utf-8') as chosen:

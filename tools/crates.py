@@ -1,5 +1,6 @@
 """The crates of the repository: which crates each one uses, by `crates.txt`, and how many lines it has."""
 import os
+import shutil
 
 TOP = os.path.dirname(os.path.dirname(os.path.abspath(__file__)))
 PARTS = 'src', 'specs', 'proofs'
@@ -30,6 +31,12 @@ def below(program):
 
 def folder(name):
     return os.path.join(TOP, 'crates', name)
+
+
+def copy_crate(name, top):
+    """Copies a crate, without its wrong bodies and what was built, to where it is below the folder `top`."""
+    shutil.copytree(folder(name), os.path.join(top, 'crates', name), dirs_exist_ok=True,
+                    ignore=shutil.ignore_patterns('out', 'must-fail'))
 
 
 def files(name, parts=PARTS):

@@ -25,7 +25,7 @@ import time
 
 sys.dont_write_bytecode = True
 import kit                                                                  # noqa: E402
-from crates import TOP, crates                                              # noqa: E402
+from crates import TOP, copy_crate, crates                                  # noqa: E402
 
 FOLDER = os.path.join(TOP, 'checks', 'mutations')
 REFUSED, BY_NAME, MISSED, BAD, UNTRIED = 'refused', 'refused for a name alone', 'NOT REFUSED', 'BAD EDIT', 'NOT TRIED'
@@ -75,8 +75,7 @@ class Room:
             path = os.path.join(self.crate(name), part)
             if part != 'out':
                 shutil.rmtree(path) if os.path.isdir(path) else os.remove(path)
-        shutil.copytree(os.path.join(TOP, 'crates', name), self.crate(name), dirs_exist_ok=True,
-                        ignore=shutil.ignore_patterns('out', 'must-fail'))
+        copy_crate(name, self.folder)
 
     def put(self, name, edits):
         folder = os.path.join(self.crate(name), 'must-fail')
